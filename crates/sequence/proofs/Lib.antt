@@ -1,0 +1,3 @@
+pub mod Orbit
+pub mod Draws
+pub mod Unique

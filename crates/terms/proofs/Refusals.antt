@@ -1,0 +1,67 @@
+-- Laws of refusal tables. `refused-exactly` and `taken-exactly`: a number is given exactly when its row applies and no row before it
+-- does, and a call is taken exactly when no row applies. `walk` closes a return of a function that checks its rows in order.
+-- Assumes nothing.
+use Prim.Native.Nat.{ℕ}
+use mathlib.Core.Bool.{Bool, true, false, not}
+use mathlib.Core.List.{List, [], _∷_, _++_}
+use mathlib.Core.Logic.{_⊎_, inl, inr, _↔_}
+use mathlib.Core.Path.{_≡_, refl, sym, ap, _∙_}
+use native.Mathlib.Omega.{arith}
+use lib.Dec.{eqb}
+use borrow.Author.Tests.{lt-ltb, le-ltb, le-leb, lt-leb, eq-eqb, ne-eqb, eqb-true, eqb-false, not-true, not-false}
+use Rattle.terms.specs.Choice.{when, either}
+use Rattle.terms.proofs.Tests.{when-true, when-false}
+use Rattle.terms.specs.Refusals.{Row, Answer, refused, taken, _given-when_, first}
+
+-- Row n applies, and no row before it.
+abbrev pub Given : ℕ → List Row → Type 0
+Given n [] = ⊥
+Given n (r ∷ rows) = ((r .number ≡ n) × (r .applies ≡ true)) ⊎ ((r .applies ≡ false) × Given n rows)
+
+-- No row applies.
+abbrev pub Clear : List Row → Type 0
+Clear [] = Unit {0}
+Clear (r ∷ rows) = (r .applies ≡ false) × Clear rows
+
+module _ {A : Type 0} (a : A) where
+  refused-row : (n m : ℕ) (b : Bool) (rows : List Row) → (first rows a ≡ refused n → Given n rows)
+      → when b (refused m) (first rows a) ≡ refused n → Given n (m given-when b ∷ rows)
+  unfolding when
+  refused-row n m true rows f e = inl (cc, refl)
+  refused-row n m false rows f e = inr (refl, f e)
+
+  refused-given : (n : ℕ) (rows : List Row) → first rows a ≡ refused n → Given n rows
+  refused-given n [] e = let z : _≡_ {A = ℕ} 0 1 = cc in omega arith
+  refused-given n (r ∷ rows) e = refused-row n (r .number) (r .applies) rows (refused-given n rows) e
+
+  given-refused : (n : ℕ) (rows : List Row) → Given n rows → first rows a ≡ refused n
+  given-refused n [] g = absurd g
+  given-refused n (r ∷ rows) (inl p) = when-true _ _ (p .1) ∙ ap refused (p .0)
+  given-refused n (r ∷ rows) (inr p) = when-false _ _ (p .0) ∙ given-refused n rows (p .1)
+
+  pub refused-exactly : (n : ℕ) (rows : List Row) → (first rows a ≡ refused n) ↔ Given n rows
+  refused-exactly n rows = (refused-given n rows, given-refused n rows)
+
+  taken-row : (x : A) (m : ℕ) (b : Bool) (rows : List Row) → (first rows a ≡ taken x → Clear rows × (x ≡ a))
+      → when b (refused m) (first rows a) ≡ taken x → Clear (m given-when b ∷ rows) × (x ≡ a)
+  unfolding when
+  taken-row x m true rows f e = let z : _≡_ {A = ℕ} 0 1 = cc in absurd (omega arith)
+  taken-row x m false rows f e = let g = f e in ((refl, g .0), g .1)
+
+  taken-clear : (x : A) (rows : List Row) → first rows a ≡ taken x → Clear rows × (x ≡ a)
+  taken-clear x [] e = (tt, cc)
+  taken-clear x (r ∷ rows) e = taken-row x (r .number) (r .applies) rows (taken-clear x rows) e
+
+  pub clear-taken : (rows : List Row) → Clear rows → first rows a ≡ taken a
+  clear-taken [] c = refl
+  clear-taken (r ∷ rows) c = when-false _ _ (c .0) ∙ clear-taken rows (c .1)
+
+  pub taken-exactly : (x : A) (rows : List Row) → (first rows a ≡ taken x) ↔ (Clear rows × (x ≡ a))
+  taken-exactly x rows = (taken-clear x rows, λ c. clear-taken rows (c .0) ∙ ap taken (sym (c .1)))
+
+-- The steps of a walk through a table: a row that applies is the answer, one that does not is passed.
+pub row-given : {A : Type 0} (b : Bool) (r x y : A) → b ≡ true → r ≡ x → r ≡ when b x y
+row-given b r x y e p = p ∙ sym (when-true x y e)
+
+pub row-passed : {A : Type 0} (b : Bool) (r x y : A) → b ≡ false → r ≡ y → r ≡ when b x y
+row-passed b r x y e p = p ∙ sym (when-false x y e)

@@ -1,0 +1,38 @@
+-- Laws of tests: what a choice gives once its test is known, and what a joined test says of its parts.
+-- Assumes nothing.
+use mathlib.Core.Bool.{Bool, true, false, not, true≢false, false≢true}
+use mathlib.Core.Logic.{_⊎_, inl, inr, _↔_}
+use mathlib.Core.Path.{_≡_, refl, sym, _∙_}
+use Prim.Native.Nat.{ℕ, _<_, _≤_}
+use lib.Dec.{ltb, leb, eqb}
+use borrow.Author.Tests.{ltb-true, ltb-false, eqb-true, eqb-false, lt-ltb, ne-eqb, not-true, not-false}
+use Rattle.terms.specs.Choice.{when, both, either}
+
+pub when-true : {A : Type 0} {b : Bool} (x y : A) → b ≡ true → when b x y ≡ x
+unfolding when
+when-true x y e = rw e
+
+pub when-false : {A : Type 0} {b : Bool} (x y : A) → b ≡ false → when b x y ≡ y
+unfolding when
+when-false x y e = rw e
+
+-- What holds of both choices holds of the one that is made.
+pub when-elim : {A : Type 0} (P : A → Type 0) (b : Bool) {x y : A} → P x → P y → P (when b x y)
+unfolding when
+when-elim P true p q = p
+when-elim P false p q = q
+
+pub both-true : (a b : Bool) → (both a b ≡ true) ↔ ((a ≡ true) × (b ≡ true))
+unfolding both
+both-true true b = ((λ e. (refl, e)), (λ p. p .1))
+both-true false b = ((λ e. absurd (false≢true e)), (λ p. absurd (false≢true (p .0))))
+
+pub either-true : (a b : Bool) → (either a b ≡ true) ↔ ((a ≡ true) ⊎ (b ≡ true))
+unfolding either
+either-true true b = ((λ e. inl refl), (λ p. refl))
+either-true false b = (inr, elim [ inl e ↦ absurd (false≢true e) | inr e ↦ e ])
+
+pub either-false : (a b : Bool) → (either a b ≡ false) ↔ ((a ≡ false) × (b ≡ false))
+unfolding either
+either-false true b = ((λ e. absurd (true≢false e)), (λ p. absurd (true≢false (p .0))))
+either-false false b = ((λ e. (refl, e)), (λ p. p .1))
