@@ -3,14 +3,14 @@
 -- Assumes nothing.
 use Prim.Native.Nat.{ℕ}
 use mathlib.Core.Bool.{Bool, true, false, not}
-use mathlib.Core.List.{List, [], _∷_, _++_}
+use mathlib.Core.List.{List, [], _∷_}
 use mathlib.Core.Logic.{_⊎_, inl, inr, _↔_}
 use mathlib.Core.Path.{_≡_, refl, sym, ap, _∙_}
 use native.Mathlib.Omega.{arith}
 use lib.Dec.{eqb}
-use borrow.Author.Tests.{lt-ltb, le-ltb, le-leb, lt-leb, eq-eqb, ne-eqb, eqb-true, eqb-false, not-true, not-false}
+use borrow.Author.Tests.{lt-ltb, le-ltb, le-leb, lt-leb, eq-eqb, ne-eqb}
 use Rattle.terms.specs.Choice.{when, either}
-use Rattle.terms.proofs.Tests.{when-true, when-false}
+use Rattle.terms.proofs.Tests.{when-true, when-false, either-true, differ-true, differ-false}
 use Rattle.terms.specs.Refusals.{Row, Answer, refused, taken, _given-when_, first}
 
 -- Row n applies, and no row before it.
@@ -59,9 +59,37 @@ module _ {A : Type 0} (a : A) where
   pub taken-exactly : (x : A) (rows : List Row) → (first rows a ≡ taken x) ↔ (Clear rows × (x ≡ a))
   taken-exactly x rows = (taken-clear x rows, λ c. clear-taken rows (c .0) ∙ ap taken (sym (c .1)))
 
--- The steps of a walk through a table: a row that applies is the answer, one that does not is passed.
+-- The steps of a walk through a table: a row that applies is the answer, and one that does not is passed.
 pub row-given : {A : Type 0} (b : Bool) (r x y : A) → b ≡ true → r ≡ x → r ≡ when b x y
 row-given b r x y e p = p ∙ sym (when-true x y e)
 
 pub row-passed : {A : Type 0} (b : Bool) (r x y : A) → b ≡ false → r ≡ y → r ≡ when b x y
 row-passed b r x y e p = p ∙ sym (when-false x y e)
+
+-- The same where the rows themselves go by a test.
+pub rows-here : {A : Type 0} (b : Bool) (r : Answer A) (xs ys : List Row) (a : A) → b ≡ true → r ≡ first xs a → r ≡ first (when b xs ys) a
+rows-here b r xs ys a e p = p ∙ ap (λ (rows : List Row). first rows a) (sym (when-true xs ys e))
+
+pub rows-there : {A : Type 0} (b : Bool) (r : Answer A) (xs ys : List Row) (a : A) → b ≡ false → r ≡ first ys a → r ≡ first (when b xs ys) a
+rows-there b r xs ys a e p = p ∙ ap (λ (rows : List Row). first rows a) (sym (when-false xs ys e))
+
+-- The same in a row of several tests.
+pub either-here : (a b : Bool) → a ≡ true → true ≡ either a b
+either-here a b e = sym (either-true a b .1 (inl e))
+
+pub either-passed : (a b r : Bool) → a ≡ false → r ≡ b → r ≡ either a b
+unfolding either
+either-passed a b r e p = rw e p
+
+-- What a function answered of a test, once its answer is known.
+pub answered : (r b v : Bool) → r ≡ b → r ≡ v → b ≡ v
+answered r b v p q = sym p ∙ q
+
+pub differs : (m n : ℕ) → (m ≡ n → ⊥) → not (eqb m n) ≡ true
+differs m n = differ-true m n .1
+
+pub agrees : (m n : ℕ) → m ≡ n → not (eqb m n) ≡ false
+agrees m n = differ-false m n .1
+
+pub ruleset walk =
+    (row-given, row-passed, rows-here, rows-there, either-here, either-passed, answered, differs, agrees, lt-ltb, le-ltb, le-leb, lt-leb, eq-eqb, ne-eqb)

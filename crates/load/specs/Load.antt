@@ -1,0 +1,38 @@
+-- 01, rows 4 to 9 of "Refusal numbers": a command with its image.
+-- Assumes nothing.
+use mathlib.Core.List.{List, [], _∷_}
+use Prim.Native.Nat.{ℕ}
+use lib.Dec.{ltb, eqb}
+use lib.ListN.{length}
+use Rattle.terms.specs.Choice.{when}
+use Rattle.terms.specs.Refusals.{Row, Answer, refused, taken, _given-when_, first}
+use Rattle.load.specs.Image.{badLength, otherLength, otherStart, badStack, otherSum}
+use Rattle.load.specs.declared.Accepted.{Accepted}
+use Rattle.load.specs.declared.Accepted.the-variants.{Refused, Taken}
+use Rattle.load.specs.declared.Load.{Load}
+
+abbrev pub imageRows : List ℕ → List Row
+imageRows image =
+    5 given-when badLength image
+    ∷ 6 given-when otherLength image
+    ∷ 7 given-when otherStart image
+    ∷ 8 given-when badStack image
+    ∷ 9 given-when otherSum image
+    ∷ []
+
+-- 4: the command is above 3. For command 0 the image is not looked at.
+abbrev pub loadRows : ℕ → List ℕ → List Row
+loadRows command image = 4 given-when ltb 3 command ∷ when (eqb command 0) [] (imageRows image)
+
+-- The command with the length of its image: 0 for command 0, which has none.
+abbrev pub loadOf : ℕ → List ℕ → Load
+loadOf command image = record { command = command; length = record { 0 = when (eqb command 0) 0 (length image) } }
+
+-- The load, or the first row that applies.
+unfoldable pub accepted : ℕ → List ℕ → Answer Load
+accepted command image = first (loadRows command image) (loadOf command image)
+
+-- What an answer tells: its number where it is a refusal, otherwise the load.
+abbrev pub toldAccepted : Accepted → Answer Load
+toldAccepted (Refused n) = refused n
+toldAccepted (Taken l) = taken l

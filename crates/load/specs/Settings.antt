@@ -1,0 +1,32 @@
+-- 01, "Bench figures", and rows 1 to 3 of "Refusal numbers".
+-- Assumes nothing.
+use mathlib.Core.Bool.{Bool}
+use mathlib.Core.List.{List, [], _∷_}
+use Prim.Native.Nat.{ℕ}
+use lib.Dec.{ltb}
+use Rattle.terms.specs.Choice.{either}
+use Rattle.terms.specs.Refusals.{Row, Answer, refused, taken, _given-when_, first}
+use Rattle.load.specs.declared.Checked.{Checked}
+use Rattle.load.specs.declared.Checked.the-variants.{Refused, Taken}
+use Rattle.load.specs.declared.Settings.{Settings}
+
+-- Below the smallest, or above the largest.
+unfoldable pub outside : ℕ → ℕ → ℕ → Bool
+outside smallest largest x = either (ltb x smallest) (ltb largest x)
+
+-- Each figure outside its bounds: t and h in ns, p in ps.
+abbrev pub settingsRows : ℕ → ℕ → ℕ → List Row
+settingsRows t h p =
+    1 given-when outside 4300 26000 t
+    ∷ 2 given-when outside 4300 90000000 h
+    ∷ 3 given-when outside 1000 1000000 p
+    ∷ []
+
+-- The settings, or the first row that applies.
+unfoldable pub checked : ℕ → ℕ → ℕ → Answer Settings
+checked t h p = first (settingsRows t h p) (record { t = t; h = h; p = p })
+
+-- What an answer tells: its number where it is a refusal, otherwise the settings.
+abbrev pub toldChecked : Checked → Answer Settings
+toldChecked (Refused n) = refused n
+toldChecked (Taken s) = taken s

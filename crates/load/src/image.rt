@@ -1,0 +1,69 @@
+// The rows of the refusal table that look at an image. A word is looked at only in an image long enough to have it.
+ghost use mathlib.Core.Path.{_≡_};
+ghost use Rattle.load.specs.Image.{badLength, otherLength, otherStart, badStack, otherSum};
+
+const SMALLEST_LENGTH: usize = 16;
+
+const LARGEST_LENGTH: usize = 32_760;
+
+// Where the words stand that an image tells of itself.
+const START_AT: usize = 6;
+
+const LENGTH_AT: usize = 8;
+
+const D_AT: usize = 10;
+
+// Where every image's code starts.
+const START: u16 = 16;
+
+// The two flag longs that the chip stores below D lie past the image.
+const FLAGS: usize = 8;
+
+const RAM: usize = 32_768;
+
+// What the bytes of a good image sum to, modulo 256.
+const SUM: u8 = 20;
+
+pub(crate) fn has_bad_length(image: &[u8]) -> bool
+    ensures { λ r. ⌜ r ≡ badLength (now (image .entry)) ⌝ }
+{
+    let length = image.len();
+    if length < SMALLEST_LENGTH {
+        return true;
+    }
+    if LARGEST_LENGTH < length {
+        return true;
+    }
+    length % 4 != 0
+}
+
+pub(crate) fn names_other_length(image: &[u8]) -> bool
+    ensures { λ r. ⌜ r ≡ otherLength (now (image .entry)) ⌝ }
+{
+    lent::word(image, LENGTH_AT) as usize != image.len()
+}
+
+pub(crate) fn starts_elsewhere(image: &[u8]) -> bool
+    ensures { λ r. ⌜ r ≡ otherStart (now (image .entry)) ⌝ }
+{
+    lent::word(image, START_AT) != START
+}
+
+pub(crate) fn has_bad_stack(image: &[u8]) -> bool
+    ensures { λ r. ⌜ r ≡ badStack (now (image .entry)) ⌝ }
+{
+    let d = lent::word(image, D_AT) as usize;
+    if d % 4 != 0 {
+        return true;
+    }
+    if d < image.len() + FLAGS {
+        return true;
+    }
+    RAM < d
+}
+
+pub(crate) fn sums_otherwise(image: &[u8]) -> bool
+    ensures { λ r. ⌜ r ≡ otherSum (now (image .entry)) ⌝ }
+{
+    lent::sum(image) != SUM
+}
