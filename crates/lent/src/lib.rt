@@ -3,15 +3,19 @@ ghost use mathlib.Core.Path.{_≡_};
 ghost use Prim.Native.Nat.{_%_};
 ghost use lib.ListN.{getD};
 ghost use Rattle.lent.specs.Bytes.{wordAt, total};
+use units::Bytes;
 
 // The word at byte `at`, low byte first. A byte past the end reads as 0.
-pub fn word(bytes: &[u8], at: usize) -> u16
-    ensures { λ r. ⌜ r ≡ wordAt (now (bytes .entry)) at ⌝ }
+pub fn word(bytes: &[u8], at: Bytes) -> u16
+    ensures { λ r. ⌜ r ≡ wordAt (now (bytes .entry)) (at .0) ⌝ }
 {
+    let at = at.0;
     if bytes.len() <= at {
         return 0;
     }
-    byte(bytes, at) as u16 + byte(bytes, at + 1) as u16 * 256
+    let low = byte(bytes, at);
+    let high = byte(bytes, at + 1);
+    low as u16 + high as u16 * 256
 }
 
 // The sum of all bytes, modulo 256.

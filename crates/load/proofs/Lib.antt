@@ -1,3 +1,5 @@
 pub mod Exactly
+pub mod Facts
 pub mod Loads
+pub mod Says
 pub mod Unique

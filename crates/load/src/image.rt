@@ -1,25 +1,24 @@
 // The rows of the refusal table that look at an image. A word is looked at only in an image long enough to have it.
 ghost use mathlib.Core.Path.{_≡_};
 ghost use Rattle.load.specs.Image.{badLength, otherLength, otherStart, badStack, otherSum};
+use units::Bytes;
 
-const SMALLEST_LENGTH: usize = 16;
+const SMALLEST_LENGTH: Bytes = Bytes(16);
 
-const LARGEST_LENGTH: usize = 32_760;
+const LARGEST_LENGTH: Bytes = Bytes(32_760);
 
 // Where the words stand that an image tells of itself.
-const START_AT: usize = 6;
+const START_AT: Bytes = Bytes(6);
 
-const LENGTH_AT: usize = 8;
+const LENGTH_AT: Bytes = Bytes(8);
 
-const D_AT: usize = 10;
+const D_AT: Bytes = Bytes(10);
 
 // Where every image's code starts.
 const START: u16 = 16;
 
-// The two flag longs that the chip stores below D lie past the image.
-const FLAGS: usize = 8;
-
-const RAM: usize = 32_768;
+// The bytes of the two flag longs, which the chip stores between the image and D.
+const FLAGS: Bytes = Bytes(8);
 
 // What the bytes of a good image sum to, modulo 256.
 const SUM: u8 = 20;
@@ -28,10 +27,10 @@ pub(crate) fn has_bad_length(image: &[u8]) -> bool
     ensures { λ r. ⌜ r ≡ badLength (now (image .entry)) ⌝ }
 {
     let length = image.len();
-    if length < SMALLEST_LENGTH {
+    if length < SMALLEST_LENGTH.0 {
         return true;
     }
-    if LARGEST_LENGTH < length {
+    if LARGEST_LENGTH.0 < length {
         return true;
     }
     length % 4 != 0
@@ -56,10 +55,10 @@ pub(crate) fn has_bad_stack(image: &[u8]) -> bool
     if d % 4 != 0 {
         return true;
     }
-    if d < image.len() + FLAGS {
+    if d < image.len() + FLAGS.0 {
         return true;
     }
-    RAM < d
+    Bytes::MEMORY.0 < d
 }
 
 pub(crate) fn sums_otherwise(image: &[u8]) -> bool

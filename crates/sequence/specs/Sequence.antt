@@ -3,15 +3,20 @@
 use mathlib.Core.Bool.{Bool}
 use mathlib.Core.List.{List, [], _∷_}
 use Prim.Native.Nat.{ℕ, zero, suc, _+_, _*_, _/_, _%_, _^_}
+use lib.Bits.{bitXor}
 use lib.Dec.{eqb}
 
 -- Bit k of a number.
 abbrev pub bit : ℕ → ℕ → ℕ
 bit k s = s / 2 ^ k % 2
 
--- A state is shifted left one place, kept to 8 bits, with bit 0 set to the exclusive or of bits 7, 5, 4, 1: their sum modulo 2.
+-- The exclusive or of bits 7, 5, 4, 1.
+abbrev pub taps : ℕ → ℕ
+taps s = bitXor (bitXor (bitXor (bit 7 s) (bit 5 s)) (bit 4 s)) (bit 1 s)
+
+-- The state is shifted left one place, kept to 8 bits, with bit 0, which the shift leaves 0, set to the taps.
 unfoldable pub advanced : ℕ → ℕ
-advanced s = s * 2 % 256 + (bit 7 s + bit 5 s + bit 4 s + bit 1 s) % 2
+advanced s = s * 2 % 256 + taps s
 
 -- The state after n advances from the seed $50.
 unfoldable pub state : ℕ → ℕ

@@ -24,6 +24,9 @@ pub enum Seen {
 }
 
 impl Bytes {
+    // The bytes of the RAM, and of the EEPROM.
+    pub const MEMORY: Bytes = Bytes(32_768);
+
     // The whole longs in these bytes: one to three bytes left over do not count. More longs than the ROM can count are
     // `u32::MAX` longs.
     pub fn to_longs(self) -> Longs
@@ -55,10 +58,11 @@ impl Ticks {
             return Loops(0);
         }
         let ticks = self.0;
-        if u64::MAX / (p as u64) < ticks {
-            return Loops(u32::MAX);
+        if ticks <= u64::MAX / (p as u64) {
+            Loops(counted(ticks * (p as u64) / (l as u64)))
+        } else {
+            Loops(u32::MAX)
         }
-        Loops(counted(ticks * (p as u64) / (l as u64)))
     }
 }
 

@@ -12,7 +12,7 @@ returns : tie.Need-returns
 unfolding wordAt
 returns c =
     let bytes = c .before .before .args .bytes .now in
-    let at = c .before .before .args .at in
+    let at = c .before .before .args .at .0 in
     let past : length bytes ≤ at = c .if1 .taken in
     let next : length bytes ≤ at + 1 = omega arith in
     rw (List·getD-eq-default bytes 0 past, List·getD-eq-default bytes 0 next)
@@ -20,14 +20,14 @@ returns c =
 byte-requires : tie.Need-byte-requires
 byte-requires c κs = search needs
 
-cast-result : tie.Need-cast-result
-cast-result c = search needs
-
 add-byte : tie.Need-add-byte
 add-byte c = search needs
 
 byte-requires-2 : tie.Need-byte-requires-2
 byte-requires-2 c κs = search needs
+
+cast-result : tie.Need-cast-result
+cast-result c = search needs
 
 cast-result-2 : tie.Need-cast-result-2
 cast-result-2 c = search needs
@@ -48,9 +48,9 @@ word-spec =
     (tie.spec
     returns
     byte-requires
-    cast-result
     add-byte
     byte-requires-2
+    cast-result
     cast-result-2
     mul-result
     add-result

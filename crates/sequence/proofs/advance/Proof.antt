@@ -1,31 +1,22 @@
--- `sequence::advance` by shifts and masks is the tap rule: a test at each of the 256 states.
+-- `sequence::advance` by shifts and masks is the tap rule: a mask keeps bit 0 of each tap, and the shift leaves room for it.
 -- Assumes nothing.
-use mathlib.Core.Bool.{Bool, true}
-use mathlib.Core.Path.{_≡_, refl}
-use Prim.Native.Nat.{ℕ, _*_, _/_, _%_, _^_}
-use lib.Bits.{bitOr, bitAnd, bitXor}
-use lib.Dec.{eqb}
-use borrow.Author.Tests.{eqb-true}
-use borrow.Author.Needs.{needs}
-use Rattle.terms.specs.Choice.{both}
-use Rattle.terms.proofs.Tables.{below, at}
-use Rattle.sequence.specs.Sequence.{advanced}
+use mathlib.Core.Path.{_≡_}
+use Prim.Native.Nat.{ℕ, _*_, _%_, _^_, _<_}
+use native.Mathlib.Omega.{arith}
+use lib.Bits.{and-mask, or-shifted, xor-lt, xor-mod}
+use Rattle.sequence.specs.Sequence.{bit, taps, advanced}
 use Rattle.sequence.proofs.advance.Statement.{statement}
 use Rattle.sequence.proofs.advance.Tie as tie
 
-abbrev shifted : ℕ → ℕ
-shifted s = bitOr (s * 2 % 256) (bitAnd (bitXor (bitXor (bitXor (s / 128) (s / 32)) (s / 16)) (s / 2)) 1)
-
-right : ℕ → Bool
-right s = eqb (shifted s) (advanced s)
-
-all-right : below right 256 ≡ true
-unfolding right both advanced
-all-right = refl
+taps-bit : (s : ℕ) → taps s < 2 ^ 1
+taps-bit s = xor-lt 1 _ (bit 1 s) (xor-lt 1 _ (bit 4 s) (xor-lt 1 (bit 7 s) (bit 5 s) (omega arith) (omega arith)) (omega arith)) (omega arith)
 
 returns : tie.Need-returns
-unfolding right
-returns c = eqb-true _ _ (at right 256 all-right (c .args .state) (search needs))
+unfolding advanced
+returns c =
+    let s = c .args .state in
+    let even : s * 2 % 256 ≡ s % 128 * 2 ^ 1 = omega arith in
+    rw (and-mask _ 1, xor-mod _ _ 1, xor-mod _ _ 1, xor-mod _ _ 1, even, or-shifted (s % 128) 1 (taps s) (taps-bit s))
 
 pub advance-spec : {M : Type 1} → statement M
 advance-spec = tie.close (tie.spec returns)

@@ -21,11 +21,11 @@ add-if2 c = search needs
 
 returns-2 : tie.Need-returns-2
 unfolding badStack
-returns-2 c = rw (← (c .before .before .word .ensures)) (search walk)
+returns-2 c = rw (← (c .before .before .before .word .ensures)) (search walk)
 
 returns-3 : tie.Need-returns-3
 unfolding badStack
-returns-3 c = rw (← (c .before .before .word .ensures)) (search walk)
+returns-3 c = rw (← (c .before .before .before .before .word .ensures)) (search walk)
 
 pub has-bad-stack-spec : {M : Type 1} → statement M
 has-bad-stack-spec = tie.close (tie.spec word-requires cast-d returns add-if2 returns-2 returns-3)

@@ -22,17 +22,10 @@ returns-2 c =
 div-if3 : tie.Need-div-if3
 div-if3 c = search needs
 
-returns-3 : tie.Need-returns-3
-returns-3 c =
-    let a = c .before .before .before .args in
-    let long : 2 ^ 64 - 1 < a .self .0 * a .p = div-lt-iff-lt-mul {k = a .p} (omega arith) .0 (c .if3 .taken) in
-    let many : most ≤ a .self .0 * a .p / a .l = le-div-iff-mul-le {k = a .l} (omega arith) .1 (omega arith) in
-    sym (some-length (a .self .0) (a .p) (a .l) (c .before .before .if1 .left) ∙ omega arith)
-
 mul-counted : tie.Need-mul-counted
 mul-counted c =
     let a = c .before .before .before .args in
-    let short : a .self .0 * a .p ≤ 2 ^ 64 - 1 = le-div-iff-mul-le {k = a .p} (omega arith) .0 (c .if3 .left) in
+    let short : a .self .0 * a .p ≤ 2 ^ 64 - 1 = le-div-iff-mul-le {k = a .p} (omega arith) .0 (c .if3 .taken) in
     omega arith
 
 div-counted : tie.Need-div-counted
@@ -41,9 +34,16 @@ div-counted c = search needs
 counted-requires : tie.Need-counted-requires
 counted-requires c κs = search needs
 
+returns-3 : tie.Need-returns-3
+returns-3 c = c .counted .ensures ∙ sym (some-length _ _ _ (c .before .before .before .if1 .left))
+
 returns-4 : tie.Need-returns-4
-returns-4 c = c .counted .ensures ∙ sym (some-length _ _ _ (c .before .before .before .if1 .left))
+returns-4 c =
+    let a = c .before .before .before .args in
+    let long : 2 ^ 64 - 1 < a .self .0 * a .p = div-lt-iff-lt-mul {k = a .p} (omega arith) .0 (c .if3 .left) in
+    let many : most ≤ a .self .0 * a .p / a .l = le-div-iff-mul-le {k = a .l} (omega arith) .1 (omega arith) in
+    sym (some-length (a .self .0) (a .p) (a .l) (c .before .before .if1 .left) ∙ omega arith)
 
 pub to-loops-spec : {M : Type 1} → statement M
 to-loops-spec =
-    tie.close (tie.spec returns returns-2 div-if3 returns-3 mul-counted div-counted counted-requires returns-4)
+    tie.close (tie.spec returns returns-2 div-if3 mul-counted div-counted counted-requires returns-3 returns-4)
