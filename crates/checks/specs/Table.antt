@@ -7,7 +7,7 @@ use Prim.Native.Nat.{ℕ, _%_}
 use lib.ListN.{take}
 use Rattle.terms.specs.Choice.{when}
 use Rattle.lent.specs.Bytes.{total}
-use Rattle.sequence.specs.Sequence.{advanced, state, handshake, connection}
+use Rattle.sequence.specs.Sequence.{state, handshake, connection}
 use Rattle.checks.specs.Sample.{sample}
 
 -- Bits as 01 writes them.
@@ -17,8 +17,8 @@ digits bits = map (λ (b : Bool). when b 1 0) bits
 pub record Checks : Type 0 where
   -- States 50 A1 42 85 0B.
   pub p1 : map state (0 ∷ 1 ∷ 2 ∷ 3 ∷ 4 ∷ []) ≡ 0x50 ∷ 0xA1 ∷ 0x42 ∷ 0x85 ∷ 0x0B ∷ []
-  -- 8D then 1B.
-  pub p2 : advanced 0x8D ≡ 0x1B
+  -- 8D then 1B: the states after 67 and 68 advances.
+  pub p2 : map state (67 ∷ 68 ∷ []) ≡ 0x8D ∷ 0x1B ∷ []
   -- The handshake starts 0 1 0 1 1 1 0 0.
   pub p3 : digits (take 8 handshake) ≡ 0 ∷ 1 ∷ 0 ∷ 1 ∷ 1 ∷ 1 ∷ 0 ∷ 0 ∷ []
   -- The connection starts 0 1 0 0 0 0 1 0.

@@ -11,6 +11,7 @@ use Rattle.load.specs.declared.Accepted.{Accepted}
 use Rattle.load.specs.declared.Accepted.the-variants.{Refused, Taken}
 use Rattle.load.specs.declared.Load.{Load}
 
+-- The rows that look at the image.
 abbrev pub imageRows : List ℕ → List Row
 imageRows image =
     5 given-when badLength image

@@ -2,7 +2,7 @@
 -- are draws 1 to 250 and 251 to 500, one run.
 -- Assumes nothing.
 use mathlib.Core.Bool.{Bool}
-use mathlib.Core.List.{List, [], _∷_, _++_}
+use mathlib.Core.List.{List, _∷_, _++_}
 use mathlib.Core.Path.{_≡_, refl, sym, ap, _∙_}
 use Prim.Native.Nat.{ℕ, zero, suc, _+_, _%_, _<_}
 use native.Mathlib.Nat.{zero-add, add-zero, le-of-suc-le-suc, not-suc-le-zero}
@@ -10,7 +10,7 @@ use native.Mathlib.Omega.{arith}
 use lib.Dec.{eqb}
 use lib.ListN.{length, getD}
 use Rattle.sequence.specs.Sequence.{bit, state, draw, draws, handshake, connection}
-use Rattle.sequence.proofs.Orbit.{state-repeats, state-place}
+use Rattle.sequence.proofs.Orbit.{state-place}
 
 -- Bit 0 of a state, as a test.
 abbrev odd : ℕ → Bool

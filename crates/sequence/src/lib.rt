@@ -1,6 +1,6 @@
 // The bit sequence by which host and chip know each other: an 8-bit state, its advance, and the numbered draws.
 ghost use mathlib.Core.Path.{_≡_};
-ghost use Rattle.sequence.specs.Sequence.{advanced, draw as drawn};
+ghost use Rattle.sequence.specs.Sequence.{advanced, draw};
 
 mod states;
 
@@ -16,7 +16,7 @@ pub fn advance(state: u8) -> u8
 
 // Draw `k`, numbered from 1. Draw 0 is the one before the first: the sequence is a circle, so that it is draw 255.
 pub fn draw(k: u32) -> bool
-    ensures { λ r. ⌜ r ≡ drawn k ⌝ }
+    ensures { λ r. ⌜ r ≡ draw k ⌝ }
 {
     let place = (k % PERIOD + (PERIOD - 1)) % PERIOD;
     states::state_at(place as usize) & 1 == 1

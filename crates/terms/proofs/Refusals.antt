@@ -85,6 +85,7 @@ either-passed a b r e p = rw e p
 pub answered : (r b v : Bool) → r ≡ b → r ≡ v → b ≡ v
 answered r b v p q = sym p ∙ q
 
+-- The halves of `differ-true` and `differ-false` that a walk takes: a set's entries are lemmas by name.
 pub differs : (m n : ℕ) → (m ≡ n → ⊥) → not (eqb m n) ≡ true
 differs m n = differ-true m n .1
 

@@ -16,12 +16,6 @@ pub when-false : {A : Type 0} {b : Bool} (x y : A) → b ≡ false → when b x 
 unfolding when
 when-false x y e = rw e
 
--- What holds of both choices holds of the one that is made.
-pub when-elim : {A : Type 0} (P : A → Type 0) (b : Bool) {x y : A} → P x → P y → P (when b x y)
-unfolding when
-when-elim P true p q = p
-when-elim P false p q = q
-
 pub both-true : (a b : Bool) → (both a b ≡ true) ↔ ((a ≡ true) × (b ≡ true))
 unfolding both
 both-true true b = ((λ e. (refl, e)), (λ p. p .1))

@@ -2,13 +2,12 @@
 -- each other.
 -- Assumes nothing.
 use mathlib.Core.Bool.{Bool, true, false}
-use mathlib.Core.Path.{_≡_, refl, sym, _∙_}
+use mathlib.Core.Path.{_≡_, refl}
 use Prim.Native.Nat.{ℕ, _*_, _/_, _%_, _≤_, _<_, min}
 use native.Mathlib.Nat.{le-div-iff-mul-le, mul-zero}
 use native.Mathlib.Omega.{arith}
 use lib.Dec.{eqb}
 use borrow.Author.Tests.{eq-eqb, ne-eqb, eqb-true, eqb-false}
-use Rattle.terms.specs.Choice.{when}
 use Rattle.terms.proofs.Tests.{when-true, when-false}
 use Rattle.units.specs.Units.{most, longsIn, bytesIn, loopsIn}
 

@@ -1,7 +1,7 @@
 -- `Ticks::to_loops` counts the whole loops in some ticks: where the ticks last 2 ^ 64 ps or more, loops of a period below 2 ^ 32 ps
 -- are more than 32 bits can count.
 -- Assumes nothing.
-use mathlib.Core.Path.{_≡_, sym, _∙_}
+use mathlib.Core.Path.{sym, _∙_}
 use Prim.Native.Nat.{_*_, _/_, _-_, _^_, _≤_, _<_}
 use native.Mathlib.Nat.{mul-zero, zero-div, le-div-iff-mul-le, div-lt-iff-lt-mul}
 use native.Mathlib.Omega.{arith}
