@@ -3,16 +3,35 @@
 use mathlib.Core.Bool.{Bool}
 use mathlib.Core.List.{List, [], _∷_, map}
 use mathlib.Core.Path.{_≡_}
-use Prim.Native.Nat.{ℕ, _%_}
+use Prim.Native.Nat.{ℕ, zero, suc, _%_}
 use lib.ListN.{take}
 use Rattle.terms.specs.Choice.{when}
+use Rattle.terms.specs.Refusals.{Answer, refused, taken}
+use Rattle.host.specs.Step.{hostStart, hostStep}
+use Rattle.host.specs.declared.Host.{Host}
+use Rattle.host.specs.declared.Sent.{Sent}
 use Rattle.lent.specs.Bytes.{total}
 use Rattle.sequence.specs.Sequence.{state, handshake, connection}
+use Rattle.units.specs.declared.Seen.the-variants.{Silence}
 use Rattle.checks.specs.Sample.{sample}
 
 -- Bits as 01 writes them.
 abbrev pub digits : List Bool → List ℕ
 digits bits = map (λ (b : Bool). when b 1 0) bits
+
+-- The edges of so many pulses, fall and rise by turns, where nothing is seen.
+abbrev sentEdges : (Host → List ℕ) → Answer Sent → List ℕ
+sentEdges rest (refused n) = []
+sentEdges rest (taken s) = s .fall .0 ∷ s .rise .0 ∷ rest (s .host)
+
+abbrev edges : ℕ → List ℕ → Host → List ℕ
+edges zero image h = []
+edges (suc n) image h = sentEdges (edges n image) (hostStep h image Silence)
+
+-- The same from a start.
+abbrev pub startEdges : ℕ → List ℕ → Answer Host → List ℕ
+startEdges n image (refused m) = []
+startEdges n image (taken h) = edges n image h
 
 pub record Checks : Type 0 where
   -- States 50 A1 42 85 0B.
@@ -25,3 +44,5 @@ pub record Checks : Type 0 where
   pub p4 : digits (take 8 connection) ≡ 0 ∷ 1 ∷ 0 ∷ 0 ∷ 0 ∷ 0 ∷ 1 ∷ 0 ∷ []
   -- S sums to 20 modulo 256.
   pub p7 : total sample % 256 ≡ 20
+  -- t = h = 8,600 ns, p = 700,000 ps: the first edges at ticks 0, 12, 24, 49, 61.
+  pub p8 : take 5 (startEdges 3 sample (hostStart 8600 8600 700000 1 sample)) ≡ 0 ∷ 12 ∷ 24 ∷ 49 ∷ 61 ∷ []

@@ -19,7 +19,7 @@ use Rattle.load.specs.declared.Load.{Load}
 use Rattle.load.specs.declared.Settings.{Settings}
 use Rattle.load.proofs.Facts.{Fit, Good, Known}
 
-within : (smallest largest x : ℕ) → (outside smallest largest x ≡ false) ↔ ((smallest ≤ x) × (x ≤ largest))
+pub within : (smallest largest x : ℕ) → (outside smallest largest x ≡ false) ↔ ((smallest ≤ x) × (x ≤ largest))
 unfolding outside
 within smallest largest x = simp (either-false, less-false) Iff·rfl
 
@@ -58,7 +58,7 @@ module _ (image : List ℕ) where
         summed = differ-false _ _ .0 (c .1 .1 .1 .1 .0);
       }
 
-  good-clear : Good image → Clear (imageRows image)
+  pub good-clear : Good image → Clear (imageRows image)
   unfolding badLength otherLength otherStart badStack otherSum
   good-clear g = (
     simp (either-false, less-false, differ-false) (g .long, (g .short, g .whole)),

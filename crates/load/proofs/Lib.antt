@@ -3,3 +3,4 @@ pub mod Facts
 pub mod Loads
 pub mod Says
 pub mod Unique
+pub mod Within

@@ -15,11 +15,11 @@ pub outside-says : (smallest largest x : ℕ) → (outside smallest largest x �
 unfolding outside
 outside-says smallest largest x = either-says _ _ (less-true x smallest) (less-true largest x)
 
-module _ (image : List ℕ) where
-  pub bad-length-says : (badLength image ≡ true) ↔ ((length image < 16) ⊎ ((32760 < length image) ⊎ (length image % 4 ≡ 0 → ⊥)))
-  unfolding badLength
-  bad-length-says = either-says _ _ (less-true _ _) (either-says _ _ (less-true _ _) (differ-true _ _))
+pub bad-length-says : (n : ℕ) → (badLength n ≡ true) ↔ ((n < 16) ⊎ ((32760 < n) ⊎ (n % 4 ≡ 0 → ⊥)))
+unfolding badLength
+bad-length-says n = either-says _ _ (less-true n 16) (either-says _ _ (less-true 32760 n) (differ-true (n % 4) 0))
 
+module _ (image : List ℕ) where
   pub other-length-says : (otherLength image ≡ true) ↔ (wordAt image 8 ≡ length image → ⊥)
   unfolding otherLength
   other-length-says = differ-true _ _

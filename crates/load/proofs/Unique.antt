@@ -1,7 +1,7 @@
 -- Each public call has one answer, since what it tells can be turned back. `Post` is the promise that is generated from the call's
 -- contract.
 -- Assumes nothing.
-use mathlib.Core.Path.{_≡_, refl}
+use mathlib.Core.Path.{_≡_, refl, sym, _∙_}
 use Rattle.terms.specs.Refusals.{Answer, refused, taken}
 use Rattle.terms.proofs.Answers.{OneAnswer, one-told}
 use Rattle.load.specs.Load.{toldAccepted}
@@ -12,8 +12,12 @@ use Rattle.load.specs.declared.Checked.{Checked}
 use Rattle.load.specs.declared.Checked.the-variants as checked
 use Rattle.load.specs.declared.Load.{Load}
 use Rattle.load.specs.declared.Settings.{Settings}
+use Rattle.load.proofs.Load.is_outside.Kinds as load-is-outside-kinds
+use Rattle.load.proofs.Load.is_outside.Reads as load-is-outside
 use Rattle.load.proofs.Load.new.Kinds as load-new-kinds
 use Rattle.load.proofs.Load.new.Reads as load-new
+use Rattle.load.proofs.Settings.is_outside.Kinds as settings-is-outside-kinds
+use Rattle.load.proofs.Settings.is_outside.Reads as settings-is-outside
 use Rattle.load.proofs.Settings.new.Kinds as settings-new-kinds
 use Rattle.load.proofs.Settings.new.Reads as settings-new
 
@@ -38,3 +42,9 @@ settings-new-one κs a r₁ r₂ e₁ e₂ p q = one-told toldChecked backChecke
 
 pub load-new-one : OneAnswer load-new-kinds.ps load-new-kinds.r load-new.Post
 load-new-one κs a r₁ r₂ e₁ e₂ p q = one-told toldAccepted backAccepted back-told-accepted r₁ r₂ _ p q
+
+pub settings-is-outside-one : OneAnswer settings-is-outside-kinds.ps settings-is-outside-kinds.r settings-is-outside.Post
+settings-is-outside-one κs a r₁ r₂ e₁ e₂ p q = p ∙ sym q
+
+pub load-is-outside-one : OneAnswer load-is-outside-kinds.ps load-is-outside-kinds.r load-is-outside.Post
+load-is-outside-one κs a r₁ r₂ e₁ e₂ p q = p ∙ sym q

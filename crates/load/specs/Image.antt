@@ -9,11 +9,8 @@ use Rattle.terms.specs.Choice.{either}
 use Rattle.lent.specs.Bytes.{wordAt, total}
 
 -- 5: its length is under 16, over 32,760, or no multiple of 4.
-unfoldable pub badLength : List ℕ → Bool
-badLength image =
-    either (ltb (length image) 16)
-    (either (ltb 32760 (length image))
-    (not (eqb (length image % 4) 0)))
+unfoldable pub badLength : ℕ → Bool
+badLength n = either (ltb n 16) (either (ltb 32760 n) (not (eqb (n % 4) 0)))
 
 -- 6: the word at byte 8 differs from the length.
 unfoldable pub otherLength : List ℕ → Bool

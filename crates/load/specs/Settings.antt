@@ -26,6 +26,10 @@ settingsRows t h p =
 unfoldable pub checked : ℕ → ℕ → ℕ → Answer Settings
 checked t h p = first (settingsRows t h p) (record { t = t; h = h; p = p })
 
+-- 13: settings that no start hands out, with a figure outside its bounds.
+unfoldable pub settingsOutside : Settings → Bool
+settingsOutside s = either (outside 4300 26000 (s .t)) (either (outside 4300 90000000 (s .h)) (outside 1000 1000000 (s .p)))
+
 -- What an answer tells: its number where it is a refusal, otherwise the settings.
 abbrev pub toldChecked : Checked → Answer Settings
 toldChecked (Refused n) = refused n

@@ -1,11 +1,8 @@
 // The rows of the refusal table that look at an image. A word is looked at only in an image long enough to have it.
 ghost use mathlib.Core.Path.{_≡_};
 ghost use Rattle.load.specs.Image.{badLength, otherLength, otherStart, badStack, otherSum};
+use crate::Load;
 use units::Bytes;
-
-const SMALLEST_LENGTH: Bytes = Bytes(16);
-
-const LARGEST_LENGTH: Bytes = Bytes(32_760);
 
 // Where the words stand that an image tells of itself.
 const START_AT: Bytes = Bytes(6);
@@ -23,17 +20,16 @@ const FLAGS: Bytes = Bytes(8);
 // What the bytes of a good image sum to, modulo 256.
 const SUM: u8 = 20;
 
-pub(crate) fn has_bad_length(image: &[u8]) -> bool
-    ensures { λ r. ⌜ r ≡ badLength (now (image .entry)) ⌝ }
+pub(crate) fn is_bad_length(length: Bytes) -> bool
+    ensures { λ r. ⌜ r ≡ badLength (length .0) ⌝ }
 {
-    let length = image.len();
-    if length < SMALLEST_LENGTH.0 {
+    if length.0 < Load::SMALLEST_LENGTH.0 {
         return true;
     }
-    if LARGEST_LENGTH.0 < length {
+    if Load::LARGEST_LENGTH.0 < length.0 {
         return true;
     }
-    length % 4 != 0
+    length.0 % 4 != 0
 }
 
 pub(crate) fn names_other_length(image: &[u8]) -> bool

@@ -1,7 +1,7 @@
 // What a start accepts: the settings of a bench, and a command with its image.
 ghost use mathlib.Core.Path.{_≡_};
-ghost use Rattle.load.specs.Settings.{outside, checked, toldChecked};
-ghost use Rattle.load.specs.Load.{accepted, toldAccepted};
+ghost use Rattle.load.specs.Settings.{outside, checked, settingsOutside, toldChecked};
+ghost use Rattle.load.specs.Load.{accepted, loadOutside, toldAccepted};
 
 mod image;
 
@@ -60,10 +60,27 @@ impl Settings {
         }
         Checked::Taken(Settings { t, h, p })
     }
+
+    // Whether a figure lies outside its bounds, as only settings made by hand can have it.
+    pub fn is_outside(self) -> bool
+        ensures { λ r. ⌜ r ≡ settingsOutside self ⌝ }
+    {
+        if outside(self.t, Self::SMALLEST_T, Self::LARGEST_T) {
+            return true;
+        }
+        if outside(self.h, Self::SMALLEST_H, Self::LARGEST_H) {
+            return true;
+        }
+        outside(self.p, Self::SMALLEST_P, Self::LARGEST_P)
+    }
 }
 
 impl Load {
     pub const LARGEST_COMMAND: u32 = 3;
+
+    pub const SMALLEST_LENGTH: Bytes = Bytes(16);
+
+    pub const LARGEST_LENGTH: Bytes = Bytes(32_760);
 
     // The load, or the first refusal that applies: 4 for the command, 5 to 9 for the image. Command 0 has no image, and what is
     // lent as one is not looked at.
@@ -79,7 +96,7 @@ impl Load {
                 length: Bytes(0),
             });
         }
-        if image::has_bad_length(image) {
+        if image::is_bad_length(Bytes(image.len())) {
             return Accepted::Refused(5);
         }
         if image::names_other_length(image) {
@@ -98,6 +115,19 @@ impl Load {
             command,
             length: Bytes(image.len()),
         })
+    }
+
+    // Whether the command or the length is one that no start hands out.
+    pub fn is_outside(self) -> bool
+        ensures { λ r. ⌜ r ≡ loadOutside self ⌝ }
+    {
+        if Self::LARGEST_COMMAND < self.command {
+            return true;
+        }
+        if self.command == 0 {
+            return self.length.0 != 0;
+        }
+        image::is_bad_length(self.length)
     }
 }
 

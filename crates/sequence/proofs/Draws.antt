@@ -23,10 +23,11 @@ draw-place (suc n) =
     let place : n % 255 ≡ (suc n % 255 + 254) % 255 = omega arith in
     ap odd (state-place n ∙ ap state place)
 
+pub draw-same : (j k : ℕ) → j % 255 ≡ k % 255 → draw j ≡ draw k
+draw-same j k e = draw-place j ∙ ap (λ (r : ℕ). odd (state ((r + 254) % 255))) e ∙ sym (draw-place k)
+
 pub draw-repeats : (k : ℕ) → draw (k + 255) ≡ draw k
-draw-repeats k =
-    let place : ((k + 255) % 255 + 254) % 255 ≡ (k % 255 + 254) % 255 = omega arith in
-    draw-place (k + 255) ∙ ap (λ (n : ℕ). odd (state n)) place ∙ sym (draw-place k)
+draw-repeats k = let same : (k + 255) % 255 ≡ k % 255 = omega arith in draw-same (k + 255) k same
 
 pub length-draws : (k n : ℕ) → length (draws k n) ≡ n
 unfolding draws

@@ -5,7 +5,7 @@ ghost use Rattle.sequence.specs.Sequence.{advanced, draw};
 mod states;
 
 // The number of states before the sequence repeats.
-const PERIOD: u32 = 255;
+pub const PERIOD: u32 = 255;
 
 // The state after `state`: shifted left one place, with the exclusive or of its bits 7, 5, 4 and 1 as the new bit 0.
 pub fn advance(state: u8) -> u8

@@ -3,7 +3,7 @@
 -- Assumes nothing.
 use Prim.Native.Nat.{ℕ}
 use mathlib.Core.Bool.{Bool, true, false, not}
-use mathlib.Core.List.{List, [], _∷_}
+use mathlib.Core.List.{List, [], _∷_, _++_}
 use mathlib.Core.Logic.{_⊎_, inl, inr, _↔_}
 use mathlib.Core.Path.{_≡_, refl, sym, ap, _∙_}
 use native.Mathlib.Omega.{arith}
@@ -58,6 +58,35 @@ module _ {A : Type 0} (a : A) where
 
   pub taken-exactly : (x : A) (rows : List Row) → (first rows a ≡ taken x) ↔ (Clear rows × (x ≡ a))
   taken-exactly x rows = (taken-clear x rows, λ c. clear-taken rows (c .0) ∙ ap taken (sym (c .1)))
+
+-- Rows followed by more: what they refuse stays refused, and past them the others decide.
+module _ {A B : Type 0} (a : A) (b : B) (more : List Row) where
+  passed-over : (n : ℕ) (rows : List Row) → Given n rows → Given n (rows ++ more)
+  passed-over n [] g = absurd g
+  passed-over n (r ∷ rows) (inl p) = inl p
+  passed-over n (r ∷ rows) (inr p) = inr (p .0, passed-over n rows (p .1))
+
+  passed-by : (rows : List Row) → Clear rows → first (rows ++ more) b ≡ first more b
+  passed-by [] c = refl
+  passed-by (r ∷ rows) c = when-false _ _ (c .0) ∙ passed-by rows (c .1)
+
+  pub clear-both : (rows : List Row) → Clear (rows ++ more) → Clear rows × Clear more
+  clear-both [] c = (tt, c)
+  clear-both (r ∷ rows) c = let p = clear-both rows (c .1) in ((c .0, p .0), p .1)
+
+  pub refused-before : (n : ℕ) (rows : List Row) → first rows a ≡ refused n → first (rows ++ more) b ≡ refused n
+  refused-before n rows e = given-refused b n (rows ++ more) (passed-over n rows (refused-given a n rows e))
+
+  pub taken-before : (x : A) (rows : List Row) → first rows a ≡ taken x → (first (rows ++ more) b ≡ first more b) × (x ≡ a)
+  taken-before x rows e = let p = taken-clear a x rows e in (passed-by rows (p .0), p .1)
+
+-- What rows refuse, they refuse whatever the call hands back where they do not, and so for what they let pass.
+module _ {A B : Type 0} (rows : List Row) (a : A) (b : B) where
+  pub refused-alike : (n : ℕ) → first rows a ≡ refused n → first rows b ≡ refused n
+  refused-alike n e = given-refused b n rows (refused-given a n rows e)
+
+  pub taken-alike : (x : A) → first rows a ≡ taken x → (first rows b ≡ taken b) × (x ≡ a)
+  taken-alike x e = let p = taken-clear a x rows e in (clear-taken b rows (p .0), p .1)
 
 -- The steps of a walk through a table: a row that applies is the answer, and one that does not is passed.
 pub row-given : {A : Type 0} (b : Bool) (r x y : A) → b ≡ true → r ≡ x → r ≡ when b x y

@@ -16,6 +16,12 @@ pub when-false : {A : Type 0} {b : Bool} (x y : A) → b ≡ false → when b x 
 unfolding when
 when-false x y e = rw e
 
+-- What holds of both, where its test allows it, holds of the choice.
+pub when-elim : {A : Type 0} (P : A → Type 0) (b : Bool) (x y : A) → (b ≡ true → P x) → (b ≡ false → P y) → P (when b x y)
+unfolding when
+when-elim P true x y t f = t refl
+when-elim P false x y t f = f refl
+
 pub both-true : (a b : Bool) → (both a b ≡ true) ↔ ((a ≡ true) × (b ≡ true))
 unfolding both
 both-true true b = ((λ e. (refl, e)), (λ p. p .1))

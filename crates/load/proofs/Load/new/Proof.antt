@@ -15,8 +15,8 @@ returns-2 : tie.Need-returns-2
 unfolding accepted
 returns-2 c = search (walk, load-bare) depth 12
 
-has-bad-length-requires : tie.Need-has-bad-length-requires
-has-bad-length-requires c κs = search needs
+is-bad-length-requires : tie.Need-is-bad-length-requires
+is-bad-length-requires c κs = search needs
 
 returns-3 : tie.Need-returns-3
 unfolding accepted
@@ -60,7 +60,7 @@ new-spec =
     (tie.spec
     returns
     returns-2
-    has-bad-length-requires
+    is-bad-length-requires
     returns-3
     names-other-length-requires
     returns-4

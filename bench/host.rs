@@ -1,0 +1,326 @@
+// The host planner written plainly in Rust, with the refusals and the answers of the crate `host`, and the program of crates/longest
+// over it: what the proved planner's instructions are compared with.
+
+#[derive(Clone, Copy)]
+enum Seen {
+    Silence,
+    Zero,
+    One,
+}
+
+#[derive(Clone, Copy)]
+enum Acknowledgement {
+    Ram,
+    Programming,
+    Verification,
+}
+
+#[derive(Clone, Copy)]
+enum Ending {
+    Done,
+    Lost,
+    WrongVersion,
+    BadRam,
+    BadProgramming,
+    BadVerification,
+}
+
+#[derive(Clone, Copy)]
+enum Phase {
+    Calibration,
+    Handshake,
+    Connection,
+    Version(u8),
+    Command,
+    Zeros,
+    Size,
+    Image,
+    Wait(Acknowledgement),
+    Ended(Ending),
+}
+
+#[derive(Clone, Copy)]
+struct Host {
+    t: u32,
+    h: u32,
+    p: u32,
+    command: u32,
+    length: usize,
+    phase: Phase,
+    index: u32,
+    time: u64,
+    pulses: u32,
+    ones: u32,
+    zeros: u32,
+}
+
+struct Sent {
+    host: Host,
+    fall: u64,
+    rise: u64,
+}
+
+const LONGEST_LEG: u64 = 90_052_000_000;
+
+fn states() -> [u8; 255] {
+    let mut table = [0; 255];
+    let mut state = 0x50u8;
+    for entry in table.iter_mut() {
+        *entry = state;
+        state = state << 1 | (state >> 7 ^ state >> 5 ^ state >> 4 ^ state >> 1) & 1;
+    }
+    table
+}
+
+struct Planner {
+    states: [u8; 255],
+}
+
+impl Planner {
+    fn draw(&self, k: u32) -> bool {
+        self.states[((k + 254) % 255) as usize] & 1 == 1
+    }
+}
+
+fn word(image: &[u8], at: usize) -> usize {
+    image[at] as usize | (image[at + 1] as usize) << 8
+}
+
+fn sum(image: &[u8]) -> u8 {
+    image.iter().fold(0, |sum: u8, byte| sum.wrapping_add(*byte))
+}
+
+fn bad_length(length: usize) -> bool {
+    length < 16 || length > 32_760 || length % 4 != 0
+}
+
+impl Host {
+    fn start(t: u32, h: u32, p: u32, command: u32, image: &[u8]) -> Result<Host, u8> {
+        if !(4_300..=26_000).contains(&t) {
+            return Err(1);
+        }
+        if !(4_300..=90_000_000).contains(&h) {
+            return Err(2);
+        }
+        if !(1_000..=1_000_000).contains(&p) {
+            return Err(3);
+        }
+        if command > 3 {
+            return Err(4);
+        }
+        let mut length = 0;
+        if command != 0 {
+            length = image.len();
+            if bad_length(length) {
+                return Err(5);
+            }
+            if word(image, 8) != length {
+                return Err(6);
+            }
+            if word(image, 6) != 16 {
+                return Err(7);
+            }
+            let d = word(image, 10);
+            if d % 4 != 0 || d < length + 8 || d > 32_768 {
+                return Err(8);
+            }
+            if sum(image) != 20 {
+                return Err(9);
+            }
+        }
+        Ok(Host {
+            t,
+            h,
+            p,
+            command,
+            length,
+            phase: Phase::Calibration,
+            index: 0,
+            time: 0,
+            pulses: 0,
+            ones: 0,
+            zeros: 0,
+        })
+    }
+
+    // The pulses of a phase, those that can come before it, and the least command that has it.
+    fn table(&self) -> (u32, u32, u32) {
+        let image = self.length as u32 * 8;
+        match self.phase {
+            Phase::Calibration => (2, 0, 0),
+            Phase::Handshake => (250, 2, 0),
+            Phase::Connection => (500, 252, 0),
+            Phase::Version(_) => (16, 752, 0),
+            Phase::Command | Phase::Zeros => (32, 768, 0),
+            Phase::Size => (32, 800, 1),
+            Phase::Image => (image, 832, 1),
+            Phase::Wait(Acknowledgement::Ram) => (50, 832 + image, 1),
+            Phase::Wait(Acknowledgement::Programming) => (1000, 882 + image, 2),
+            Phase::Wait(Acknowledgement::Verification) => (400, 1882 + image, 2),
+            Phase::Ended(Ending::BadRam) => (1, 2282 + image, 1),
+            Phase::Ended(Ending::BadProgramming | Ending::BadVerification) => (1, 2282 + image, 2),
+            Phase::Ended(_) => (1, 2282 + image, 0),
+        }
+    }
+
+    fn outside(&self) -> bool {
+        if !(4_300..=26_000).contains(&self.t)
+            || !(4_300..=90_000_000).contains(&self.h)
+            || !(1_000..=1_000_000).contains(&self.p)
+            || self.command > 3
+        {
+            return true;
+        }
+        if if self.command == 0 { self.length != 0 } else { bad_length(self.length) } {
+            return true;
+        }
+        let (places, before, least) = self.table();
+        self.command < least
+            || self.index >= places
+            || self.pulses > before + self.index
+            || self.ones > self.pulses
+            || self.zeros != self.pulses - self.ones
+            || self.time > self.pulses as u64 * LONGEST_LEG
+    }
+
+    fn step(mut self, planner: &Planner, image: &[u8], seen: Seen) -> Result<Sent, u8> {
+        if self.outside() {
+            return Err(13);
+        }
+        if let Phase::Ended(_) = self.phase {
+            return Err(14);
+        }
+        if self.command != 0 && image.len() != self.length {
+            return Err(5);
+        }
+        let bit = self.bit(planner, image);
+        let silent = matches!((self.phase, seen), (Phase::Wait(_), Seen::Silence)) && self.index % 2 == 1;
+        let low = if bit { self.t as u64 } else { self.t as u64 * 2 } * 1_000;
+        let spacer = if silent { self.h.max(10_000_000) } else { self.h } as u64 * 1_000;
+        let fall = self.time;
+        let rise = fall + low;
+        self.time = rise + spacer;
+        self.pulses += 1;
+        if bit {
+            self.ones += 1;
+        } else {
+            self.zeros += 1;
+        }
+        self.follow(planner, seen);
+        let p = self.p as u64;
+        Ok(Sent { host: self, fall: fall / p, rise: rise / p })
+    }
+
+    fn bit(&self, planner: &Planner, image: &[u8]) -> bool {
+        let index = self.index;
+        match self.phase {
+            Phase::Calibration | Phase::Connection | Phase::Version(_) | Phase::Wait(_) => index % 2 == 0,
+            Phase::Handshake => planner.draw(index + 1),
+            Phase::Command => self.command >> index & 1 == 1,
+            Phase::Zeros | Phase::Ended(_) => false,
+            Phase::Size => (self.length as u32 / 4) >> index & 1 == 1,
+            Phase::Image => image[index as usize / 8] >> (index % 8) & 1 == 1,
+        }
+    }
+
+    fn follow(&mut self, planner: &Planner, seen: Seen) {
+        if self.index % 2 == 1 {
+            match (self.phase, seen) {
+                (Phase::Connection, Seen::Silence) | (Phase::Version(_), Seen::Silence) => return self.open(Phase::Ended(Ending::Lost)),
+                (Phase::Connection, Seen::Zero) if planner.draw(251 + self.index / 2) => return self.open(Phase::Ended(Ending::Lost)),
+                (Phase::Connection, Seen::One) if !planner.draw(251 + self.index / 2) => return self.open(Phase::Ended(Ending::Lost)),
+                (Phase::Version(v), Seen::Zero) => self.phase = Phase::Version(v >> 1),
+                (Phase::Version(v), Seen::One) => self.phase = Phase::Version(v >> 1 | 128),
+                (Phase::Wait(awaited), Seen::Zero) => {
+                    return self.open(match awaited {
+                        Acknowledgement::Ram if self.command == 1 => Phase::Ended(Ending::Done),
+                        Acknowledgement::Ram => Phase::Wait(Acknowledgement::Programming),
+                        Acknowledgement::Programming => Phase::Wait(Acknowledgement::Verification),
+                        Acknowledgement::Verification => Phase::Ended(Ending::Done),
+                    })
+                }
+                (Phase::Wait(awaited), Seen::One) => {
+                    return self.open(Phase::Ended(match awaited {
+                        Acknowledgement::Ram => Ending::BadRam,
+                        Acknowledgement::Programming => Ending::BadProgramming,
+                        Acknowledgement::Verification => Ending::BadVerification,
+                    }))
+                }
+                _ => {}
+            }
+        }
+        if self.index + 1 < self.table().0 {
+            self.index += 1;
+            return;
+        }
+        self.open(match self.phase {
+            Phase::Calibration => Phase::Handshake,
+            Phase::Handshake => Phase::Connection,
+            Phase::Connection => Phase::Version(0),
+            Phase::Version(1) => Phase::Command,
+            Phase::Version(_) => Phase::Zeros,
+            Phase::Command if self.command == 0 => Phase::Ended(Ending::Done),
+            Phase::Command => Phase::Size,
+            Phase::Zeros => Phase::Ended(Ending::WrongVersion),
+            Phase::Size => Phase::Image,
+            Phase::Image => Phase::Wait(Acknowledgement::Ram),
+            Phase::Wait(_) => Phase::Ended(Ending::Lost),
+            Phase::Ended(ending) => Phase::Ended(ending),
+        })
+    }
+
+    fn open(&mut self, phase: Phase) {
+        self.phase = phase;
+        self.index = 0;
+    }
+}
+
+// What a good chip replies to the pulse before.
+fn reply(planner: &Planner, host: &Host) -> Seen {
+    let seen = |bit| if bit { Seen::One } else { Seen::Zero };
+    match host.phase {
+        Phase::Connection => seen(planner.draw(251 + host.index / 2)),
+        Phase::Version(_) => seen(host.index < 2),
+        Phase::Wait(_) if host.index >= 2 => Seen::Zero,
+        _ => Seen::Silence,
+    }
+}
+
+fn main() {
+    let planner = Planner { states: states() };
+    let mut image = [0u8; 32_760];
+    for i in 16..image.len() {
+        image[i] = (i % 251) as u8;
+    }
+    image[6] = 16;
+    image[8] = (image.len() % 256) as u8;
+    image[9] = (image.len() / 256) as u8;
+    image[11] = 128;
+    image[0] = 20u8.wrapping_sub(sum(&image));
+    let mut host = match Host::start(8_600, 8_600, 700_000, 1, &image) {
+        Ok(host) => host,
+        Err(n) => {
+            println!("refused {n}");
+            return;
+        }
+    };
+    let mut last = 0;
+    let mut edges = 0u64;
+    for _ in 0..262_916 {
+        let seen = reply(&planner, &host);
+        if let Ok(sent) = host.step(&planner, &image, seen) {
+            host = sent.host;
+            last = sent.rise;
+            edges = edges.wrapping_add(sent.fall.wrapping_add(sent.rise));
+        }
+    }
+    println!("pulses {}", host.pulses);
+    println!("ones {}", host.ones);
+    println!("zeros {}", host.zeros);
+    println!("ticks {last}");
+    println!("edges {edges}");
+    match host.phase {
+        Phase::Ended(ending) => println!("host {}", ending as u8),
+        _ => println!("host going on"),
+    }
+}

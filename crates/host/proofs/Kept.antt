@@ -1,0 +1,59 @@
+-- A start hands out a host within its ranges, and each step keeps it there.
+-- Assumes nothing.
+use mathlib.Core.Bool.{false}
+use mathlib.Core.List.{List, _++_}
+use mathlib.Core.Path.{_≡_, refl, sym, subst}
+use Prim.Native.Nat.{ℕ, _+_, _*_, _≤_}
+use native.Mathlib.Omega.{arith}
+use borrow.Author.Tests.{le-ltb}
+use Rattle.terms.specs.Refusals.{taken}
+use Rattle.terms.proofs.Refusals.{clear-both, clear-taken, taken-exactly}
+use Rattle.terms.proofs.Tests.{either-false}
+use Rattle.load.specs.Load.{loadRows, loadOf}
+use Rattle.load.specs.Settings.{settingsRows, checked}
+use Rattle.load.specs.declared.Settings.{Settings}
+use Rattle.load.proofs.Exactly.{settings-taken}
+use Rattle.load.proofs.Within.{settings-within}
+use Rattle.session.specs.Step.{stepRows, pulseOf, sessionStart, sessionStep}
+use Rattle.session.specs.Step as session
+use Rattle.session.proofs.Kept as kept
+use Rattle.session.proofs.Within.{Within}
+use Rattle.units.specs.declared.Seen.{Seen}
+use Rattle.host.specs.Step.{fresh, hostStart, late, hostOutside, hostRows, timed, hostStep}
+use Rattle.host.specs.Time.{low, spacer}
+use Rattle.host.specs.declared.Host.{Host}
+use Rattle.host.specs.declared.Sent.{Sent}
+use Rattle.host.proofs.Legs.{low-most, spacer-most, not-late}
+use Rattle.host.proofs.Steps.{fits, in-time}
+
+-- A host whose own fields and whose session lie within their ranges.
+pub record Kept (h : Host) : Type 0 where
+  pub own : hostOutside h ≡ false
+  pub within : Within (h .session)
+
+pub start-keeps : (t h p command : ℕ) (image : List ℕ) (x : Host) → hostStart t h p command image ≡ taken x → Kept x
+unfolding hostStart hostOutside late checked sessionStart
+start-keeps t h p command image x e =
+    let given : Settings = record { t = t; h = h; p = p } in
+    let whole = session.fresh (loadOf command image) in
+    let passed = taken-exactly (fresh given whole) x (settingsRows t h p ++ loadRows command image) .0 e in
+    let rows = clear-both x x (loadRows command image) (settingsRows t h p) (passed .0) in
+    let fit = settings-taken t h p given .0 (clear-taken given (settingsRows t h p) (rows .0)) .0 in
+    subst Kept (sym (passed .1)) (record {
+      own = either-false _ _ .1 (settings-within given .1 fit, refl);
+      within = kept.start-keeps command image whole (clear-taken whole (loadRows command image) (rows .1));
+    })
+
+pub step-keeps : (x : Host) (image : List ℕ) (seen : Seen) (s : Sent) → hostStep x image seen ≡ taken s → Kept (s .host)
+unfolding hostStep hostOutside late sessionStep
+step-keeps x image seen s e =
+    let pulse = pulseOf (x .session) image seen in
+    let passed = taken-exactly (timed x pulse) s (hostRows x image) .0 e in
+    let fit = fits x (passed .0 .0) in
+    let early = not-late (x .session .pulses) (x .time) (in-time x (passed .0 .0)) in
+    let soon : x .time + low (x .settings) (pulse .bit) + spacer (x .settings) (pulse .silent) ≤ (x .session .pulses + 1) * 90052000000 =
+    omega (arith, early, low-most (x .settings) fit (pulse .bit), spacer-most (x .settings) fit (pulse .silent)) in
+    subst (λ (y : Sent). Kept (y .host)) (sym (passed .1)) (record {
+      own = either-false _ _ .1 (settings-within (x .settings) .1 fit, le-ltb _ _ soon);
+      within = kept.step-keeps (x .session) image seen pulse (clear-taken pulse (stepRows (x .session) image) (passed .0 .1));
+    })

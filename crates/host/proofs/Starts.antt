@@ -1,0 +1,40 @@
+-- A host starts exactly as its settings and its session do.
+-- Assumes nothing.
+use mathlib.Core.List.{List}
+use mathlib.Core.Path.{_≡_, sym, ap, _∙_}
+use Prim.Native.Nat.{ℕ}
+use Rattle.terms.specs.Refusals.{refused, taken}
+use Rattle.terms.proofs.Refusals.{refused-before, taken-before, refused-alike, taken-alike}
+use Rattle.load.specs.Load.{loadRows, loadOf}
+use Rattle.load.specs.Settings.{settingsRows, checked}
+use Rattle.load.specs.declared.Settings.{Settings}
+use Rattle.session.specs.Step.{sessionStart}
+use Rattle.session.specs.Step as session
+use Rattle.session.specs.declared.Session.{Session}
+use Rattle.host.specs.Step.{fresh, hostStart}
+
+module _ (t h p command : ℕ) (image : List ℕ) where
+  abbrev given : Settings
+  given = record { t = t; h = h; p = p }
+
+  abbrev whole : Session
+  whole = session.fresh (loadOf command image)
+
+  pub settings-refuse : (n : ℕ) → checked t h p ≡ refused n → hostStart t h p command image ≡ refused n
+  unfolding checked hostStart
+  settings-refuse n e = refused-before given (fresh given whole) (loadRows command image) n (settingsRows t h p) e
+
+  pub session-refuses : (s : Settings) (n : ℕ) → checked t h p ≡ taken s → sessionStart command image ≡ refused n
+      → hostStart t h p command image ≡ refused n
+  unfolding checked hostStart sessionStart
+  session-refuses s n e q =
+      taken-before given (fresh given whole) (loadRows command image) s (settingsRows t h p) e .0
+      ∙ refused-alike (loadRows command image) whole (fresh given whole) n q
+
+  pub both-take : (s : Settings) (x : Session) → checked t h p ≡ taken s → sessionStart command image ≡ taken x
+      → hostStart t h p command image ≡ taken (fresh s x)
+  unfolding checked hostStart sessionStart
+  both-take s x e q =
+      let settled = taken-before given (fresh given whole) (loadRows command image) s (settingsRows t h p) e in
+      let opened = taken-alike (loadRows command image) whole (fresh given whole) x q in
+      settled .0 ∙ opened .0 ∙ ap (λ (y : Settings). taken (fresh y whole)) (sym (settled .1)) ∙ ap (λ (y : Session). taken (fresh s y)) (sym (opened .1))

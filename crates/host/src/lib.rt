@@ -1,0 +1,86 @@
+// The host planner: a session in time, one pulse a step.
+ghost use mathlib.Core.Path.{_≡_};
+ghost use Rattle.host.specs.Step.{hostStart, hostStep, toldBegun, toldPlanned};
+
+mod ranges;
+mod time;
+
+use load::Checked;
+use load::Settings;
+use session::Session;
+use session::Started;
+use session::Stepped;
+use units::Seen;
+use units::Ticks;
+
+// A host: the figures of its bench, the session that it sends, and the exact time since the start, in ps, at which the next pulse
+// falls. In a record that has ended the time is the one at which a further pulse would fall.
+pub struct Host {
+    pub settings: Settings,
+    pub session: Session,
+    pub time: u64,
+}
+
+// What `Host::start` answers: a refusal by its number, or the host before its first pulse.
+pub enum Begun {
+    Refused(u8),
+    Taken(Host),
+}
+
+// A pulse sent: the host after it, and the ticks of its two edges.
+pub struct Sent {
+    pub host: Host,
+    pub fall: Ticks,
+    pub rise: Ticks,
+}
+
+// What `Host::step` answers: a refusal by its number, or the pulse that it sends.
+pub enum Planned {
+    Refused(u8),
+    Taken(Sent),
+}
+
+impl Host {
+    // The host before its first pulse, or the first of refusals 1 to 9 that applies.
+    pub fn start(t: u32, h: u32, p: u32, command: u32, image: &[u8]) -> Begun
+        ensures { λ r. ⌜ toldBegun r ≡ hostStart t h p command (now (image .entry)) ⌝ }
+    {
+        match Settings::new(t, h, p) {
+            Checked::Refused(n) => Begun::Refused(n),
+            Checked::Taken(settings) => match Session::start(command, image) {
+                Started::Refused(n) => Begun::Refused(n),
+                Started::Taken(session) => Begun::Taken(Host {
+                    settings,
+                    session,
+                    time: 0,
+                }),
+            },
+        }
+    }
+
+    // The next pulse, or a refusal: 13 for a record out of its ranges, 14 for one that has ended, 5 for an image of another length
+    // than at the start. `seen` is what was seen around the pulse before. Each edge is cut to a tick once, from its exact time.
+    pub fn step(mut self, image: &[u8], seen: Seen) -> Planned
+        ensures { λ r. ⌜ toldPlanned r ≡ hostStep self (now (image .entry)) seen ⌝ }
+    {
+        if ranges::is_outside(self) {
+            return Planned::Refused(13);
+        }
+        let session = self.session;
+        match session.step(image, seen) {
+            Stepped::Refused(n) => Planned::Refused(n),
+            Stepped::Sent(pulse) => {
+                let next = pulse.session;
+                let fall = self.time;
+                let rise = fall + time::low(self.settings, pulse.bit);
+                self.session = next;
+                self.time = rise + time::spacer(self.settings, pulse.silent);
+                Planned::Taken(Sent {
+                    host: self,
+                    fall: time::tick(self.settings, fall),
+                    rise: time::tick(self.settings, rise),
+                })
+            }
+        }
+    }
+}

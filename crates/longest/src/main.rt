@@ -1,0 +1,140 @@
+// Plans the longest session that command 1 has, an image of 32,760 bytes, against the replies of a good chip, and prints what was sent.
+// bench/host.rs is the same program in Rust.
+use host::Begun;
+use host::Host;
+use host::Planned;
+use load::Load;
+use place::Phase;
+use place::Place;
+use units::Seen;
+use units::Ticks;
+
+const LENGTH: usize = Load::LARGEST_LENGTH.0;
+
+// Its pulses, with a RAM acknowledgement at the second pair.
+const PULSES: u32 = 262_916;
+
+// The host, the last rise, and the sum of all edges' ticks modulo 2^64.
+struct Progress {
+    host: Host,
+    rise: Ticks,
+    edges: u64,
+}
+
+fn main() {
+    let mut image = [0u8; 32_760];
+    fill(&mut image);
+    plan(&image);
+}
+
+fn plan(image: &[u8; 32_760]) {
+    match Host::start(8_600, 8_600, 700_000, 1, image) {
+        Begun::Refused(n) => line(b"refused ", n as u64),
+        Begun::Taken(host) => {
+            let start = Progress {
+                host,
+                rise: Ticks(0),
+                edges: 0,
+            };
+            print(run(start, image))
+        }
+    }
+}
+
+fn print(end: Progress) {
+    let host = end.host;
+    let session = host.session;
+    line(b"pulses ", session.pulses as u64);
+    line(b"ones ", session.ones as u64);
+    line(b"zeros ", session.zeros as u64);
+    line(b"ticks ", end.rise.0);
+    line(b"edges ", end.edges);
+    let place = session.place;
+    let phase = place.phase;
+    if let Phase::Ended(ending) = phase {
+        line(b"host ", ending.number() as u64);
+    } else {
+        io::write_all(1, b"host going on\n");
+    }
+}
+
+fn run(start: Progress, image: &[u8]) -> Progress {
+    let mut progress = start;
+    let mut n = 0;
+    while n < PULSES {
+        progress = one(progress, image);
+        n += 1;
+    }
+    progress
+}
+
+// One pulse more; a refused step changes nothing.
+fn one(progress: Progress, image: &[u8]) -> Progress {
+    let host = progress.host;
+    let session = host.session;
+    let place = session.place;
+    match host.step(image, reply(place)) {
+        Planned::Refused(_) => progress,
+        Planned::Taken(sent) => {
+            let host = sent.host;
+            let rise = sent.rise;
+            let both = std::num::wrapping_add_u64(sent.fall.0, rise.0);
+            Progress {
+                host,
+                rise,
+                edges: std::num::wrapping_add_u64(progress.edges, both),
+            }
+        }
+    }
+}
+
+// What a good chip replies to the pulse before the one at a place.
+fn reply(place: Place) -> Seen {
+    let phase = place.phase;
+    let index = place.index;
+    match phase {
+        Phase::Calibration => Seen::Silence,
+        Phase::Handshake => Seen::Silence,
+        Phase::Connection => seen(sequence::draw(251 + index / 2)),
+        Phase::Version(_) => seen(index < 2),
+        Phase::Command => Seen::Silence,
+        Phase::Zeros => Seen::Silence,
+        Phase::Size => Seen::Silence,
+        Phase::Image => Seen::Silence,
+        Phase::Wait(_) => acknowledged(index),
+        Phase::Ended(_) => Seen::Silence,
+    }
+}
+
+fn seen(bit: bool) -> Seen {
+    if bit { Seen::One } else { Seen::Zero }
+}
+
+// The chip aligns on the first pair and answers the next.
+fn acknowledged(index: u32) -> Seen {
+    if index < 2 { Seen::Silence } else { Seen::Zero }
+}
+
+// An image that a start takes: the words that it tells of itself, and a first byte that makes the sum 20.
+fn fill(image: &mut [u8; 32_760]) {
+    count_up(image);
+    image[6] = 16;
+    image[8] = (LENGTH % 256) as u8;
+    image[9] = (LENGTH / 256) as u8;
+    image[11] = 128;
+    image[0] = std::num::wrapping_sub_u8(20, lent::sum(image));
+}
+
+fn count_up(image: &mut [u8; 32_760]) {
+    let mut i = 16;
+    while i < LENGTH {
+        image[i] = (i % 251) as u8;
+        i += 1;
+    }
+}
+
+fn line(name: &[u8], n: u64) {
+    io::write_all(1, name);
+    io::print_decimal(1, n);
+    io::write_all(1, b"\n");
+}

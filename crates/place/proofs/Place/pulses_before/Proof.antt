@@ -1,0 +1,24 @@
+-- `Place::pulses_before`: what is before a phase leaves room for an index.
+-- Assumes nothing.
+use native.Mathlib.Omega.{arith}
+use Rattle.place.proofs.Bounds.{before-most}
+use borrow.Author.Needs.{needs}
+use Rattle.place.proofs.Place.pulses_before.Statement.{statement}
+use Rattle.place.proofs.Place.pulses_before.Tie as tie
+
+pulses-before-requires : tie.Need-pulses-before-requires
+pulses-before-requires c κs = search needs
+
+cast-result : tie.Need-cast-result
+cast-result c = search needs
+
+add-result : tie.Need-add-result
+add-result c =
+    let a = c .before .before .args in
+    omega (arith, before-most (a .load) (a .self .phase), c .before .pulses-before .ensures)
+
+returns : tie.Need-returns
+returns c = search needs
+
+pub pulses-before-spec : {M : Type 1} → statement M
+pulses-before-spec = tie.close (tie.spec pulses-before-requires cast-result add-result returns)

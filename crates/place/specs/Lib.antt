@@ -1,0 +1,5 @@
+pub mod Bits
+pub mod Endings
+pub mod Follow
+pub mod Phases
+pub mod Ranges

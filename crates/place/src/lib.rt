@@ -1,0 +1,162 @@
+// Where a session stands, without time: its phases, the bit of the pulse at each place, what follows it, and the endings.
+ghost use mathlib.Core.Path.{_≡_};
+ghost use Prim.Native.Nat.{_+_};
+ghost use Rattle.place.specs.Bits.{sentBit};
+ghost use Rattle.place.specs.Endings.{number};
+ghost use Rattle.place.specs.Follow.{endsSilentPair, next};
+ghost use Rattle.place.specs.Phases.{ended};
+ghost use Rattle.place.specs.Ranges.{before, placeOutside};
+
+mod bits;
+mod follow;
+mod phases;
+
+use load::Load;
+use units::Seen;
+
+// What the host waits for when it waits for an acknowledgement.
+pub enum Acknowledgement {
+    Ram,
+    Programming,
+    Verification,
+}
+
+// How a session ends. It is lost by silence in a connection or version pair, by a wrong connection bit, or by silence in a wait's
+// last pair.
+pub enum Ending {
+    Done,
+    Lost,
+    WrongVersion,
+    BadRam,
+    BadProgramming,
+    BadVerification,
+}
+
+// What a session is at. A version holds the bits of it that were seen so far, shifted in from the top; `Zeros` are the 32 zero bits
+// after a wrong version.
+pub enum Phase {
+    Calibration,
+    Handshake,
+    Connection,
+    Version(u8),
+    Command,
+    Zeros,
+    Size,
+    Image,
+    Wait(Acknowledgement),
+    Ended(Ending),
+}
+
+// The next pulse to send: the phase, and the number of its pulses that were sent.
+pub struct Place {
+    pub phase: Phase,
+    pub index: u32,
+}
+
+impl Ending {
+    // The number that 01's table gives the ending.
+    pub fn number(self) -> u8
+        ensures { λ r. ⌜ r ≡ number self ⌝ }
+    {
+        match self {
+            Ending::Done => 0,
+            Ending::Lost => 1,
+            Ending::WrongVersion => 2,
+            Ending::BadRam => 3,
+            Ending::BadProgramming => 4,
+            Ending::BadVerification => 5,
+        }
+    }
+}
+
+impl Place {
+    // Whether the load's session has no such place.
+    pub fn is_outside(self, load: Load) -> bool
+        ensures { λ r. ⌜ r ≡ placeOutside load (self .phase) (self .index) ⌝ }
+    {
+        let phase = self.phase;
+        if load.command < phases::least_command(phase) {
+            return true;
+        }
+        phases::places(load, phase) <= self.index
+    }
+
+    // The most pulses that a load's session can have sent before this place.
+    pub fn pulses_before(self, load: Load) -> u64
+        ensures { λ r. ⌜ r ≡ before load (self .phase) + self .index ⌝ }
+    {
+        let phase = self.phase;
+        phases::pulses_before(load, phase) + self.index as u64
+    }
+
+    // Whether the session has ended.
+    pub fn has_ended(self) -> bool
+        ensures { λ r. ⌜ r ≡ ended (self .phase) ⌝ }
+    {
+        let phase = self.phase;
+        match phase {
+            Phase::Calibration => false,
+            Phase::Handshake => false,
+            Phase::Connection => false,
+            Phase::Version(_) => false,
+            Phase::Command => false,
+            Phase::Zeros => false,
+            Phase::Size => false,
+            Phase::Image => false,
+            Phase::Wait(_) => false,
+            Phase::Ended(_) => true,
+        }
+    }
+
+    // The bit of the pulse at this place. A byte past the image's end counts as 0, and so does the bit of an ended session.
+    pub fn bit(self, load: Load, image: &[u8]) -> bool
+        ensures { λ r. ⌜ r ≡ sentBit load (now (image .entry)) (self .phase) (self .index) ⌝ }
+    {
+        let phase = self.phase;
+        let index = self.index;
+        match phase {
+            Phase::Calibration => bits::pair_bit(index),
+            Phase::Handshake => bits::handshake_bit(index),
+            Phase::Connection => bits::pair_bit(index),
+            Phase::Version(_) => bits::pair_bit(index),
+            Phase::Command => bits::value_bit(load.command, index),
+            Phase::Zeros => false,
+            Phase::Size => bits::size_bit(load.length, index),
+            Phase::Image => bits::image_bit(image, index),
+            Phase::Wait(_) => bits::pair_bit(index),
+            Phase::Ended(_) => false,
+        }
+    }
+
+    // The place after the pulse at this one. `seen` is what was seen around the pulse before it, and counts only where this is the
+    // second pulse of a pair.
+    pub fn next(self, load: Load, seen: Seen) -> Place
+        ensures { λ r. ⌜ r ≡ next load (self .phase) (self .index) seen ⌝ }
+    {
+        let phase = self.phase;
+        let index = self.index;
+        if bits::pair_bit(index) {
+            return follow::onward(load, phase, index);
+        }
+        follow::after_pair(load, phase, index, seen)
+    }
+
+    // Whether the pulse at this place ends a silent pair of a wait.
+    pub fn ends_silent_pair(self, seen: Seen) -> bool
+        ensures { λ r. ⌜ r ≡ endsSilentPair (self .phase) (self .index) seen ⌝ }
+    {
+        let phase = self.phase;
+        match phase {
+            Phase::Calibration => false,
+            Phase::Handshake => false,
+            Phase::Connection => false,
+            Phase::Version(_) => false,
+            Phase::Command => false,
+            Phase::Zeros => false,
+            Phase::Size => false,
+            Phase::Image => false,
+            Phase::Wait(_) => follow::ends_silent(self.index, seen),
+            Phase::Ended(_) => false,
+        }
+    }
+}
