@@ -37,4 +37,7 @@ module _ (t h p command : ℕ) (image : List ℕ) where
   both-take s x e q =
       let settled = taken-before given (fresh given whole) (loadRows command image) s (settingsRows t h p) e in
       let opened = taken-alike (loadRows command image) whole (fresh given whole) x q in
-      settled .0 ∙ opened .0 ∙ ap (λ (y : Settings). taken (fresh y whole)) (sym (settled .1)) ∙ ap (λ (y : Session). taken (fresh s y)) (sym (opened .1))
+      settled .0
+      ∙ opened .0
+      ∙ ap (λ (y : Settings). taken (fresh y whole)) (sym (settled .1))
+      ∙ ap (λ (y : Session). taken (fresh s y)) (sym (opened .1))

@@ -12,7 +12,8 @@ use Rattle.sequence.specs.Sequence.{draw}
 use Rattle.units.specs.declared.Seen.{Seen}
 use Rattle.units.specs.declared.Seen.the-variants.{Silence, Zero, One}
 use Rattle.place.specs.Bits.{pairBit}
-use Rattle.place.specs.Follow.{opened, after, afterVersion, afterCommand, onward, shows, afterConnection, afterVersionPair, afterRam, afterGood, bad, afterWaitPair, afterPair, next}
+use Rattle.place.specs.Follow.{opened, after, afterVersion, afterCommand, onward, shows, afterConnection}
+use Rattle.place.specs.Follow.{afterVersionPair, afterRam, afterGood, bad, afterWaitPair, afterPair, next}
 use Rattle.place.specs.Phases.{imagePulses, pairs, places, ended}
 use Rattle.place.specs.Ranges.{before, leastCommand, leastEnding}
 use Rattle.place.specs.declared.Acknowledgement.{Acknowledgement}
@@ -50,7 +51,8 @@ module _ (load : Load) (long : 1 ≤ load .command → 16 ≤ load .length .0) w
   some-place (Ended e) h = omega arith
 
   module _ (pulses : ℕ) where
-    pub opened-stands : (phase : Phase) → leastCommand phase ≤ load .command → pulses ≤ before load phase → Stands load pulses (opened phase)
+    pub opened-stands : (phase : Phase) → leastCommand phase ≤ load .command → pulses ≤ before load phase
+        → Stands load pulses (opened phase)
     opened-stands phase h n = record { had = h; short = some-place phase h; sent = omega (arith, n) }
 
   -- After one pulse more.
@@ -63,7 +65,8 @@ module _ (load : Load) (long : 1 ≤ load .command → 16 ≤ load .length .0) w
     Then = Stands load (pulses + 1)
 
     -- Wherever a session stands, it can end there.
-    ended-stands : (phase : Phase) → ended phase ≡ false → Here phase → (e : Ending) → leastEnding e ≤ load .command → Then (opened (Ended e))
+    ended-stands : (phase : Phase) → ended phase ≡ false → Here phase → (e : Ending) → leastEnding e ≤ load .command
+        → Then (opened (Ended e))
     ended-stands phase on s e h =
         let most = phase-most load phase on in
         record { had = h; short = omega arith; sent = omega (arith, most, s .short, s .sent) }

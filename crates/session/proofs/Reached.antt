@@ -18,7 +18,8 @@ use Rattle.session.proofs.Within.{Within, session-within}
 -- What a start and steps that weren't refused lead to.
 pub data Reached : Session → Type 0 where
   started : (command : ℕ) (image : List ℕ) (s : Session) → sessionStart command image ≡ taken s → Reached s
-  stepped : (s : Session) (image : List ℕ) (seen : Seen) (p : Pulse) → Reached s → sessionStep s image seen ≡ taken p → Reached (p .session)
+  stepped : (s : Session) (image : List ℕ) (seen : Seen) (p : Pulse) → Reached s → sessionStep s image seen ≡ taken p
+      → Reached (p .session)
 
 pub reached-within : (s : Session) → Reached s → Within s
 reached-within s (started command image _ e) = start-keeps command image s e

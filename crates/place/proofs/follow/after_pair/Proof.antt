@@ -14,7 +14,8 @@ use Rattle.place.proofs.follow.after_pair.Tie as tie
 -- A phase in which what is seen does not count.
 plain : (load : Load) (phase p : Phase) (i : ℕ) (seen : Seen) (r : Place)
     → phase ≡ p → onward load p i ≡ afterPair load p i seen → r ≡ onward load phase i → r ≡ afterPair load phase i seen
-plain load phase p i seen r e h q = q ∙ ap (λ (x : Phase). onward load x i) e ∙ h ∙ ap (λ (x : Phase). afterPair load x i seen) (sym e)
+plain load phase p i seen r e h q =
+    q ∙ ap (λ (x : Phase). onward load x i) e ∙ h ∙ ap (λ (x : Phase). afterPair load x i seen) (sym e)
 
 enum-told : tie.Need-enum-told
 enum-told c = search needs
@@ -88,7 +89,8 @@ returns-3 c = rw (c .before .enum-told3 .given .1) (c .after-connection .ensures
 returns-4 : tie.Need-returns-4
 returns-4 c =
     let a = c .before .before .before .before .args in
-    c .after-version-pair .ensures ∙ ap (λ (p : Phase). afterPair (a .load) p (a .index) (a .seen)) (sym (c .before .before .phase .given .1))
+    c .after-version-pair .ensures
+    ∙ ap (λ (p : Phase). afterPair (a .load) p (a .index) (a .seen)) (sym (c .before .before .phase .given .1))
 
 returns-5 : tie.Need-returns-5
 returns-5 c = plain _ _ _ _ _ _ (c .before .enum-told4 .given .1) refl (c .onward3 .ensures)
@@ -105,7 +107,8 @@ returns-8 c = plain _ _ _ _ _ _ (c .before .enum-told7 .given .1) refl (c .onwar
 returns-9 : tie.Need-returns-9
 returns-9 c =
     let a = c .before .before .before .before .args in
-    c .after-wait-pair .ensures ∙ ap (λ (p : Phase). afterPair (a .load) p (a .index) (a .seen)) (sym (c .before .before .phase2 .given .1))
+    c .after-wait-pair .ensures
+    ∙ ap (λ (p : Phase). afterPair (a .load) p (a .index) (a .seen)) (sym (c .before .before .phase2 .given .1))
 
 returns-10 : tie.Need-returns-10
 returns-10 c = plain _ _ _ _ _ _ (c .before .enum-told8 .given .1) refl (c .onward7 .ensures)
