@@ -37,7 +37,7 @@ start-keeps t h p command image x e =
     let given : Settings = record { t = t; h = h; p = p } in
     let whole = session.fresh (loadOf command image) in
     let passed = taken-exactly (fresh given whole) x (settingsRows t h p ++ loadRows command image) .0 e in
-    let rows = clear-both x x (loadRows command image) (settingsRows t h p) (passed .0) in
+    let rows = clear-both (loadRows command image) (settingsRows t h p) (passed .0) in
     let fit = settings-taken t h p given .0 (clear-taken given (settingsRows t h p) (rows .0)) .0 in
     subst Kept (sym (passed .1)) (record {
       own = either-false _ _ .1 (settings-within given .1 fit, refl);

@@ -22,20 +22,20 @@ module _ (t h p command : ℕ) (image : List ℕ) where
 
   pub settings-refuse : (n : ℕ) → checked t h p ≡ refused n → hostStart t h p command image ≡ refused n
   unfolding checked hostStart
-  settings-refuse n e = refused-before given (fresh given whole) (loadRows command image) n (settingsRows t h p) e
+  settings-refuse n e = refused-before (loadRows command image) given (fresh given whole) n (settingsRows t h p) e
 
   pub session-refuses : (s : Settings) (n : ℕ) → checked t h p ≡ taken s → sessionStart command image ≡ refused n
       → hostStart t h p command image ≡ refused n
   unfolding checked hostStart sessionStart
   session-refuses s n e q =
-      taken-before given (fresh given whole) (loadRows command image) s (settingsRows t h p) e .0
+      taken-before (loadRows command image) given (fresh given whole) s (settingsRows t h p) e .0
       ∙ refused-alike (loadRows command image) whole (fresh given whole) n q
 
   pub both-take : (s : Settings) (x : Session) → checked t h p ≡ taken s → sessionStart command image ≡ taken x
       → hostStart t h p command image ≡ taken (fresh s x)
   unfolding checked hostStart sessionStart
   both-take s x e q =
-      let settled = taken-before given (fresh given whole) (loadRows command image) s (settingsRows t h p) e in
+      let settled = taken-before (loadRows command image) given (fresh given whole) s (settingsRows t h p) e in
       let opened = taken-alike (loadRows command image) whole (fresh given whole) x q in
       settled .0
       ∙ opened .0

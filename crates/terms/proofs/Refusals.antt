@@ -60,27 +60,28 @@ module _ {A : Type 0} (a : A) where
   taken-exactly x rows = (taken-clear x rows, λ c. clear-taken rows (c .0) ∙ ap taken (sym (c .1)))
 
 -- Rows followed by more: what they refuse stays refused, and past them the others decide.
-module _ {A B : Type 0} (a : A) (b : B) (more : List Row) where
-  passed-over : (n : ℕ) (rows : List Row) → Given n rows → Given n (rows ++ more)
-  passed-over n [] g = absurd g
-  passed-over n (r ∷ rows) (inl p) = inl p
-  passed-over n (r ∷ rows) (inr p) = inr (p .0, passed-over n rows (p .1))
-
-  passed-by : (rows : List Row) → Clear rows → first (rows ++ more) b ≡ first more b
-  passed-by [] c = refl
-  passed-by (r ∷ rows) c = when-false _ _ (c .0) ∙ passed-by rows (c .1)
+module _ (more : List Row) where
+  given-before : (n : ℕ) (rows : List Row) → Given n rows → Given n (rows ++ more)
+  given-before n [] g = absurd g
+  given-before n (r ∷ rows) (inl p) = inl p
+  given-before n (r ∷ rows) (inr p) = inr (p .0, given-before n rows (p .1))
 
   pub clear-both : (rows : List Row) → Clear (rows ++ more) → Clear rows × Clear more
   clear-both [] c = (tt, c)
   clear-both (r ∷ rows) c = let p = clear-both rows (c .1) in ((c .0, p .0), p .1)
 
-  pub refused-before : (n : ℕ) (rows : List Row) → first rows a ≡ refused n → first (rows ++ more) b ≡ refused n
-  refused-before n rows e = given-refused b n (rows ++ more) (passed-over n rows (refused-given a n rows e))
+  module _ {A B : Type 0} (a : A) (b : B) where
+    passed-by : (rows : List Row) → Clear rows → first (rows ++ more) b ≡ first more b
+    passed-by [] c = refl
+    passed-by (r ∷ rows) c = when-false _ _ (c .0) ∙ passed-by rows (c .1)
 
-  pub taken-before : (x : A) (rows : List Row) → first rows a ≡ taken x → (first (rows ++ more) b ≡ first more b) × (x ≡ a)
-  taken-before x rows e = let p = taken-clear a x rows e in (passed-by rows (p .0), p .1)
+    pub refused-before : (n : ℕ) (rows : List Row) → first rows a ≡ refused n → first (rows ++ more) b ≡ refused n
+    refused-before n rows e = given-refused b n (rows ++ more) (given-before n rows (refused-given a n rows e))
 
--- What rows refuse, they refuse whatever the call hands back where they do not, and so for what they let pass.
+    pub taken-before : (x : A) (rows : List Row) → first rows a ≡ taken x → (first (rows ++ more) b ≡ first more b) × (x ≡ a)
+    taken-before x rows e = let p = taken-clear a x rows e in (passed-by rows (p .0), p .1)
+
+-- Rows refuse the same, and let the same pass, whatever the call hands back.
 module _ {A B : Type 0} (rows : List Row) (a : A) (b : B) where
   pub refused-alike : (n : ℕ) → first rows a ≡ refused n → first rows b ≡ refused n
   refused-alike n e = given-refused b n rows (refused-given a n rows e)
