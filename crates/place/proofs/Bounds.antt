@@ -2,7 +2,7 @@
 -- Assumes nothing.
 use mathlib.Core.Bool.{false, true≢false}
 use mathlib.Core.Path.{_≡_}
-use Prim.Native.Nat.{ℕ, _+_, _*_, _<_, _≤_}
+use Prim.Native.Nat.{ℕ, _+_, _-_, _*_, _<_, _≤_}
 use native.Mathlib.Omega.{arith}
 use Rattle.load.specs.declared.Load.{Load}
 use Rattle.place.specs.Phases.{imagePulses, pairs, places, ended}
@@ -32,27 +32,21 @@ module _ (load : Load) where
   phase-most (Wait a) h = omega (arith, waits-most a)
   phase-most (Ended e) h = absurd (true≢false h)
 
-  -- No place has more before it than the longest session has pulses.
-  pub place-most : (phase : Phase) (i : ℕ) → i < places load phase → before load phase + i ≤ 264362
-  place-most Calibration i h = omega (arith, h)
-  place-most Handshake i h = omega (arith, h)
-  place-most Connection i h = omega (arith, h)
-  place-most (Version v) i h = omega (arith, h)
-  place-most Command i h = omega (arith, h)
-  place-most Zeros i h = omega (arith, h)
-  place-most Size i h = omega (arith, h)
-  place-most Image i h = omega (arith, h)
-  place-most (Wait a) i h = omega (arith, h, waits-most a)
-  place-most (Ended e) i h = omega (arith, h)
+  -- The last place of a phase, with all before it: no session has more pulses than the longest.
+  last-most : (phase : Phase) → before load phase + (places load phase - 1) ≤ 264362
+  last-most Calibration = omega arith
+  last-most Handshake = omega arith
+  last-most Connection = omega arith
+  last-most (Version v) = omega arith
+  last-most Command = omega arith
+  last-most Zeros = omega arith
+  last-most Size = omega arith
+  last-most Image = omega arith
+  last-most (Wait a) = omega (arith, waits-most a)
+  last-most (Ended e) = omega arith
 
   pub before-most : (phase : Phase) → before load phase ≤ 264362
-  before-most Calibration = omega arith
-  before-most Handshake = omega arith
-  before-most Connection = omega arith
-  before-most (Version v) = omega arith
-  before-most Command = omega arith
-  before-most Zeros = omega arith
-  before-most Size = omega arith
-  before-most Image = omega arith
-  before-most (Wait a) = omega (arith, waits-most a)
-  before-most (Ended e) = omega arith
+  before-most phase = omega (arith, last-most phase)
+
+  pub place-most : (phase : Phase) (i : ℕ) → i < places load phase → before load phase + i ≤ 264362
+  place-most phase i h = omega (arith, last-most phase, h)

@@ -11,7 +11,7 @@ use Rattle.units.specs.Units.{longsIn}
 use Rattle.place.specs.declared.Phase.{Phase}
 use Rattle.place.specs.declared.Phase.the-variants.{Calibration, Handshake, Connection, Version, Command, Zeros, Size, Image, Wait, Ended}
 
--- A pair is the bits 1, 0.
+-- A pair is the bits 1, 0, so that a pair's first pulse is the one that is a 1.
 abbrev pub pairBit : ℕ → Bool
 pairBit i = eqb (i % 2) 0
 
