@@ -1,7 +1,10 @@
--- The table holds: antt computes each of its entries.
+-- The table holds: antt computes each closed entry; P6, P9 and P10 hold for every low and every memory.
 -- Assumes nothing.
 use mathlib.Core.List.{[], _∷_}
-use mathlib.Core.Path.{_≡_, refl, ap}
+use mathlib.Core.Path.{_≡_, refl, ap, _∙_}
+use Prim.Native.Nat.{ℕ}
+use native.Mathlib.Omega.{arith}
+use borrow.Author.Tests.{le-ltb}
 use lib.ListN.{take}
 use Rattle.terms.specs.Choice.{when, either}
 use Rattle.host.specs.Step.{hostStart, late, hostOutside, hostStep}
@@ -10,6 +13,8 @@ use Rattle.lent.specs.Bytes.{wordAt, total}
 use Rattle.load.specs.Image.{badLength, otherLength, otherStart, badStack, otherSum}
 use Rattle.load.specs.Load.{loadOutside}
 use Rattle.load.specs.Settings.{outside, settingsOutside}
+use Rattle.memory.specs.Ram.{flagged, flaggedBelow}
+use Rattle.memory.proofs.Memories.{flags-of-0, flags-of-4}
 use Rattle.place.specs.Follow.{onward, next}
 use Rattle.place.specs.Ranges.{placeOutside}
 use Rattle.sequence.specs.Sequence.{advanced, state, draw, draws}
@@ -23,5 +28,16 @@ unfolding when either wordAt total outside settingsOutside badLength otherLength
 edges = refl
 
 pub checks : Checks
-unfolding when total advanced state draw draws sample
-checks = record { p1 = refl; p2 = refl; p3 = refl; p4 = refl; p7 = refl; p8 = ap (take 5) edges }
+unfolding when total advanced state draw draws flagged sample
+checks = record {
+  p1 = refl;
+  p2 = refl;
+  p3 = refl;
+  p4 = refl;
+  p5 = refl;
+  p6 = λ low. le-ltb low 0 (omega arith);
+  p7 = refl;
+  p8 = ap (take 5) edges;
+  p9 = λ ram long d. ap (λ (x : ℕ). flaggedBelow x ram) d ∙ flags-of-4 ram (omega (arith, long));
+  p10 = λ ram long d. ap (λ (x : ℕ). flaggedBelow x ram) d ∙ flags-of-0 ram;
+}

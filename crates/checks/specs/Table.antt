@@ -1,16 +1,18 @@
 -- 01, "Worked checks": the table of what is proved of the definitions, under 01's names.
 -- Assumes nothing.
-use mathlib.Core.Bool.{Bool}
+use mathlib.Core.Bool.{Bool, false}
 use mathlib.Core.List.{List, [], _∷_, map}
 use mathlib.Core.Path.{_≡_}
 use Prim.Native.Nat.{ℕ, zero, suc, _%_}
-use lib.ListN.{take}
+use lib.ListN.{length, take, drop}
 use Rattle.terms.specs.Choice.{when}
 use Rattle.terms.specs.Refusals.{Answer, refused, taken}
 use Rattle.host.specs.Step.{hostStart, hostStep}
 use Rattle.host.specs.declared.Host.{Host}
 use Rattle.host.specs.declared.Sent.{Sent}
-use Rattle.lent.specs.Bytes.{total}
+use Rattle.lent.specs.Bytes.{wordAt, total}
+use Rattle.listener.specs.Reading.{thresholdOf, reads}
+use Rattle.memory.specs.Ram.{flagged}
 use Rattle.sequence.specs.Sequence.{state, handshake, connection}
 use Rattle.units.specs.declared.Seen.the-variants.{Silence}
 use Rattle.checks.specs.Sample.{sample}
@@ -42,7 +44,15 @@ pub record Checks : Type 0 where
   pub p3 : digits (take 8 handshake) ≡ 0 ∷ 1 ∷ 0 ∷ 1 ∷ 1 ∷ 1 ∷ 0 ∷ 0 ∷ []
   -- The connection starts 0 1 0 0 0 0 1 0.
   pub p4 : digits (take 8 connection) ≡ 0 ∷ 1 ∷ 0 ∷ 0 ∷ 0 ∷ 0 ∷ 1 ∷ 0 ∷ []
+  -- Lows 8, 17: threshold 12, 11 reads 1, 12 reads 0.
+  pub p5 : thresholdOf 8 17 ∷ digits (map (reads (thresholdOf 8 17)) (11 ∷ 12 ∷ [])) ≡ 12 ∷ 1 ∷ 0 ∷ []
+  -- Lows 0, 0: every low reads 0.
+  pub p6 : (low : ℕ) → reads (thresholdOf 0 0) low ≡ false
   -- S sums to 20 modulo 256.
   pub p7 : total sample % 256 ≡ 20
   -- t = h = 8,600 ns, p = 700,000 ps: the first edges at ticks 0, 12, 24, 49, 61.
   pub p8 : take 5 (startEdges 3 sample (hostStart 8600 8600 700000 1 sample)) ≡ 0 ∷ 12 ∷ 24 ∷ 49 ∷ 61 ∷ []
+  -- D = 4 stores at 0 and nowhere else.
+  pub p9 : (ram : List ℕ) → length ram ≡ 32768 → wordAt ram 10 ≡ 4 → flagged ram ≡ 0xFF ∷ 0xFF ∷ 0xF9 ∷ 0xFF ∷ drop 4 ram
+  -- D = 0 stores nothing.
+  pub p10 : (ram : List ℕ) → length ram ≡ 32768 → wordAt ram 10 ≡ 0 → flagged ram ≡ ram

@@ -14,6 +14,13 @@ OneAnswer {n} ps r Post =
     (κs : Lfts n) (a : Dens κs ps) (r₁ r₂ : resT r κs .Denot) (e₁ e₂ : AtExit (endedOf n ps r) κs) →
     Post κs a r₁ e₁ → Post κs a r₂ e₂ → r₁ ≡ r₂
 
+-- The same of what a call leaves: its answer and what is lent to it, as it stands at exit, or as much of both as `left` says.
+abbrev pub OneOutcome : {n : ℕ} (ps : List (PK n)) (r : RK n) → Out n ps r → {X : Type 0}
+    → ((κs : Lfts n) → resT r κs .Denot → AtExit (endedOf n ps r) κs → X) → Type 0
+OneOutcome {n} ps r Post left =
+    (κs : Lfts n) (a : Dens κs ps) (r₁ r₂ : resT r κs .Denot) (e₁ e₂ : AtExit (endedOf n ps r) κs) →
+    Post κs a r₁ e₁ → Post κs a r₂ e₂ → left κs r₁ e₁ ≡ left κs r₂ e₂
+
 -- What a call tells fixes what it answered, where the telling has a left inverse.
 module _ {A B : Type 0} (told : A → B) (back : B → A) (back-told : (a : A) → back (told a) ≡ a) where
   pub one-told : (r s : A) (b : B) → told r ≡ b → told s ≡ b → r ≡ s

@@ -9,7 +9,7 @@ use mathlib.Core.Path.{_≡_, refl, sym, ap, _∙_}
 use native.Mathlib.Omega.{arith}
 use lib.Dec.{eqb}
 use borrow.Author.Tests.{lt-ltb, le-ltb, le-leb, lt-leb, eq-eqb, ne-eqb}
-use Rattle.terms.specs.Choice.{when, either}
+use Rattle.terms.specs.Choice.{when, both, either}
 use Rattle.terms.proofs.Tests.{when-true, when-false, either-true, differ-true, differ-false}
 use Rattle.terms.specs.Refusals.{Row, Answer, refused, taken, _given-when_, first}
 
@@ -111,6 +111,14 @@ pub either-passed : (a b r : Bool) → a ≡ false → r ≡ b → r ≡ either 
 unfolding either
 either-passed a b r e p = rw e p
 
+pub both-failed : (a b : Bool) → a ≡ false → false ≡ both a b
+unfolding both
+both-failed a b e = rw e refl
+
+pub both-passed : (a b r : Bool) → a ≡ true → r ≡ b → r ≡ both a b
+unfolding both
+both-passed a b r e p = rw e p
+
 -- What a function answered of a test, once its answer is known.
 pub answered : (r b v : Bool) → r ≡ b → r ≡ v → b ≡ v
 answered r b v p q = sym p ∙ q
@@ -123,4 +131,4 @@ pub agrees : (m n : ℕ) → m ≡ n → not (eqb m n) ≡ false
 agrees m n = differ-false m n .1
 
 pub ruleset walk =
-    (row-given, row-passed, rows-here, rows-there, either-here, either-passed, answered, differs, agrees, lt-ltb, le-ltb, le-leb, lt-leb, eq-eqb, ne-eqb)
+    (row-given, row-passed, rows-here, rows-there, either-here, either-passed, both-failed, both-passed, answered, differs, agrees, lt-ltb, le-ltb, le-leb, lt-leb, eq-eqb, ne-eqb)

@@ -1,2 +1,3 @@
 pub mod Conversions
+pub mod Lines
 pub mod Unique

@@ -1,0 +1,80 @@
+-- A step's answer and both memories, once its table is walked: a refused one leaves the memories, any other plays the pulse. And back:
+-- a step that wasn't refused played the pulse.
+-- Assumes nothing.
+use mathlib.Core.List.{List}
+use mathlib.Core.Path.{_≡_, refl, sym, ap, _∙_}
+use Prim.Native.Nat.{ℕ}
+use native.Mathlib.Omega.{arith}
+use Rattle.terms.specs.Refusals.{Answer, refused, taken, first}
+use Rattle.terms.proofs.Refusals.{Given, Clear, refused-exactly, clear-taken, taken-exactly}
+use Rattle.listener.specs.Hears.{hears}
+use Rattle.listener.specs.declared.Heard.{Heard}
+use Rattle.chip.specs.Step.{stepRows, Reply, Left, left, after, unlessRefused, pulse, chipStep}
+use Rattle.chip.specs.Work.{done}
+use Rattle.chip.specs.declared.Chip.{Chip}
+
+module _ (c : Chip) (ram eeprom : List ℕ) (wait low : ℕ) where
+  pub step-refused : (n : ℕ) → refused n ≡ first (stepRows c ram eeprom) (pulse c ram eeprom (hears (c .listener) wait low))
+      → left (refused n) ram eeprom ≡ chipStep c ram eeprom wait low
+  unfolding chipStep
+  step-refused n e = ap (unlessRefused ram eeprom) e
+
+  pub step-played : Clear (stepRows c ram eeprom) → pulse c ram eeprom (hears (c .listener) wait low) ≡ chipStep c ram eeprom wait low
+  unfolding chipStep
+  step-played p =
+      ap (unlessRefused ram eeprom) (sym (clear-taken (pulse c ram eeprom (hears (c .listener) wait low)) (stepRows c ram eeprom) p))
+
+-- The answer of a call that was taken.
+abbrev of : Reply → Answer Reply → Reply
+of r (refused n) = r
+of r (taken x) = x
+
+-- A refusal as what a step left.
+abbrev of-left : Answer Reply → Answer Left
+of-left (refused n) = refused n
+of-left (taken x) = refused 0
+
+-- What a step left that wasn't refused.
+pub record Stepping (c : Chip) (ram eeprom : List ℕ) (h : Heard) (r : Reply) (ram′ eeprom′ : List ℕ) : Type 0 where
+  pub passed : Clear (stepRows c ram eeprom)
+  pub chip-after : r .chip ≡ after h (done (c .fault) (h .event) ram eeprom .done .fault) (done (c .fault) (h .event) ram eeprom .done .good)
+  pub ram-after : ram′ ≡ done (c .fault) (h .event) ram eeprom .ram
+  pub eeprom-after : eeprom′ ≡ done (c .fault) (h .event) ram eeprom .eeprom
+
+module _ (c : Chip) (ram eeprom : List ℕ) (h : Heard) where
+  decided : (r : Reply) (ram′ eeprom′ : List ℕ) (a : Answer Left) → first (stepRows c ram eeprom) (pulse c ram eeprom h) ≡ a
+      → unlessRefused ram eeprom a ≡ left (taken r) ram′ eeprom′ → Stepping c ram eeprom h r ram′ eeprom′
+  decided r ram′ eeprom′ (refused n) e q =
+      let p : refused n ≡ taken r = ap (λ (x : Left). x .answer) q in
+      let z : _≡_ {A = ℕ} 0 1 = cc in
+      absurd (omega arith)
+  decided r ram′ eeprom′ (taken x) e q =
+      let known = taken-exactly (pulse c ram eeprom h) x (stepRows c ram eeprom) .0 e in
+      let same : left (taken r) ram′ eeprom′ ≡ pulse c ram eeprom h = sym q ∙ known .1 in
+      record {
+        passed = known .0;
+        chip-after = ap (λ (y : Left). of r (y .answer) .chip) same;
+        ram-after = ap (λ (y : Left). y .ram) same;
+        eeprom-after = ap (λ (y : Left). y .eeprom) same;
+      }
+
+  -- A number is given for its row alone.
+  numbered : (n : ℕ) (a : Answer Left) → first (stepRows c ram eeprom) (pulse c ram eeprom h) ≡ a
+      → unlessRefused ram eeprom a .answer ≡ refused n → Given n (stepRows c ram eeprom)
+  numbered n (refused m) e q = refused-exactly (pulse c ram eeprom h) n (stepRows c ram eeprom) .0 (e ∙ ap of-left q)
+  numbered n (taken x) e q =
+      let known = taken-exactly (pulse c ram eeprom h) x (stepRows c ram eeprom) .0 e in
+      let p : pulse c ram eeprom h .answer ≡ refused n = ap (λ (y : Left). y .answer) (sym (known .1)) ∙ q in
+      let z : _≡_ {A = ℕ} 0 1 = cc in
+      absurd (omega arith)
+
+pub step-given : (c : Chip) (ram eeprom : List ℕ) (wait low n : ℕ) → chipStep c ram eeprom wait low .answer ≡ refused n
+    → Given n (stepRows c ram eeprom)
+unfolding chipStep
+step-given c ram eeprom wait low n e = numbered c ram eeprom (hears (c .listener) wait low) n _ refl e
+
+pub step-taken : (c : Chip) (ram eeprom : List ℕ) (wait low : ℕ) (r : Reply) (ram′ eeprom′ : List ℕ)
+    → chipStep c ram eeprom wait low ≡ left (taken r) ram′ eeprom′
+    → Stepping c ram eeprom (hears (c .listener) wait low) r ram′ eeprom′
+unfolding chipStep
+step-taken c ram eeprom wait low r ram′ eeprom′ e = decided c ram eeprom (hears (c .listener) wait low) r ram′ eeprom′ _ refl e

@@ -1,0 +1,29 @@
+-- `work::finished`: the rest begins after long k.
+-- Assumes nothing.
+use mathlib.Core.Path.{refl}
+use borrow.Author.Needs.{needs}
+use Rattle.chip.proofs.work.finished.Statement.{statement}
+use Rattle.chip.proofs.work.finished.Tie as tie
+
+to-bytes-requires : tie.Need-to-bytes-requires
+to-bytes-requires c κs = search needs
+
+store-requires : tie.Need-store-requires
+store-requires c κs = search needs
+
+add-t12 : tie.Need-add-t12
+add-t12 c = search needs
+
+finish-requires : tie.Need-finish-requires
+finish-requires c κs = search needs
+
+same-length : tie.Need-same-length
+same-length c = search needs
+
+returns : tie.Need-returns
+returns c = (rw (c .before .before .finish .ensures .1, c .before .before .finish .ensures .0) refl, rw (c .before .before .finish .ensures .0, c .before .before .before .before .before .before .before .store .ensures, c .before .before .before .before .before .before .before .before .before .to-bytes .ensures) refl)
+
+pub finished-spec : {M : Type 1} → statement M
+finished-spec =
+    tie.close
+    (tie.spec to-bytes-requires store-requires add-t12 finish-requires same-length returns)

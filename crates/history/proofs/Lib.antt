@@ -1,0 +1,4 @@
+pub mod Known
+pub mod Launched
+pub mod Next
+pub mod Spelling

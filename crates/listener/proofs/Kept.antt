@@ -1,0 +1,285 @@
+-- The fresh listener is within its ranges, and each pulse keeps it there, whether the work that it calls for goes well or not: by the
+-- phases in their order, `heard-settles` for a timely pulse and `late-settles` for a time-out.
+-- Assumes nothing.
+use mathlib.Core.Bool.{Bool, true, false}
+use mathlib.Core.Path.{_≡_, refl}
+use Prim.Native.Nat.{ℕ, _+_, _<_, _≤_}
+use native.Mathlib.Omega.{arith}
+use lib.Dec.{ltb}
+use borrow.Author.Tests.{ltb-true, eqb-false, lt-leb, ne-eqb, leb-false}
+use Rattle.terms.specs.Choice.{when}
+use Rattle.terms.proofs.Tests.{when-elim, either-false, less-false}
+use Rattle.units.specs.declared.Longs.{Longs}
+use Rattle.phases.specs.Ranges.{drawOutside, sizeOutside, longOutside, phaseOutside}
+use Rattle.phases.specs.declared.Acknowledgement.{Acknowledgement}
+use Rattle.phases.specs.declared.Acknowledgement.the-variants.{Stored, Programmed, Verified, Failed}
+use Rattle.phases.specs.declared.Ending.the-variants.{Launched, Booted, Shut, Off}
+use Rattle.phases.specs.declared.Phase.{Phase}
+use Rattle.phases.specs.declared.Phase.the-variants.{First, Second, Handshake, Answer, Rest, Command, Size, Long, Align, Ended}
+use Rattle.phases.specs.declared.Reply.{Reply}
+use Rattle.phases.specs.declared.Reply.the-variants.{Connection, Acknowledging}
+use Rattle.listener.specs.Heard.{inPhase, withThreshold, withCommand, withSize, quiet, booting, launching, shutting}
+use Rattle.listener.specs.Heard.{afterDraw, compared, afterConnection, stored, verified, acknowledged, replied}
+use Rattle.listener.specs.Heard.{receivedCommand, receivedSize, receivedLong, readCommand, readSize, readLong, aligned, heard}
+use Rattle.listener.specs.Hears.{hears, failed, settled}
+use Rattle.listener.specs.Late.{late, lateAcknowledgement, lateReply, afterLate}
+use Rattle.listener.specs.Reading.{thresholdOf, reads, grown}
+use Rattle.listener.specs.declared.Heard.{Heard}
+use Rattle.listener.specs.declared.Listener.{Listener}
+use Rattle.listener.proofs.Within.{Within}
+
+pub fresh-within : Within (record { threshold = record { 0 = 0 }; command = 0; size = record { 0 = 0 }; phase = First })
+fresh-within = record { timely = omega arith; known = omega arith; short = omega arith; had = refl }
+
+-- A pulse leads within the ranges, whether its work goes well or not.
+pub record Settles (h : Heard) : Type 0 where
+  pub well : Within (h .listener)
+  pub badly : Within (failed (h .listener) (h .event))
+
+pub settled-within : (h : Heard) (good : Bool) → Settles h → Within (settled h good)
+unfolding settled
+settled-within h good s = when-elim Within good _ _ (λ e. s .well) (λ e. s .badly)
+
+-- By the test of a choice.
+tested : {b : Bool} {x y : Heard} → (b ≡ true → Settles x) → (b ≡ false → Settles y) → Settles (when b x y)
+tested t f = when-elim Settles _ _ _ t f
+
+quiet-settles : (l : Listener) (p : Phase) → Within (inPhase l p) → Settles (quiet l p)
+quiet-settles l p w = record { well = w; badly = w }
+
+-- A draw, a long and a value that are within.
+draw-had : (k : ℕ) → 1 ≤ k → k ≤ 250 → drawOutside k ≡ false
+unfolding drawOutside
+draw-had k some most = either-false _ _ .1 (ne-eqb k 0 (λ e. omega arith), less-false 250 k .1 most)
+
+size-had : (command n : ℕ) → 1 ≤ command → n ≤ 31 → sizeOutside command n ≡ false
+unfolding sizeOutside
+size-had command n some most = either-false _ _ .1 (less-false command 1 .1 some, less-false 31 n .1 most)
+
+long-had : (command size k n : ℕ) → 1 ≤ command → k < size → n ≤ 31 → longOutside command size k n ≡ false
+unfolding longOutside
+long-had command size k n some more most = either-false _ _ .1 (lt-leb size k more, size-had command n some most)
+
+module _ (l : Listener) (w : Within l) where
+  -- The listener's command and size have the phase.
+  abbrev Had : Phase → Type 0
+  Had p = phaseOutside (l .command) (l .size .0) p ≡ false
+
+  moved : (p : Phase) → Had p → Within (inPhase l p)
+  moved p h = record { timely = w .timely; known = w .known; short = w .short; had = h }
+
+  goes-on : (p : Phase) → Had p → Settles (quiet l p)
+  goes-on p h = quiet-settles l p (moved p h)
+
+  shut-had : Had (Ended Shut)
+  shut-had = less-false (l .command) 0 .1 (omega arith)
+
+  shutting-settles : Settles (shutting l)
+  shutting-settles = goes-on (Ended Shut) shut-had
+
+  booting-settles : Settles (booting l)
+  booting-settles =
+      record { well = moved (Ended Booted) (less-false (l .command) 0 .1 (omega arith)); badly = moved (Ended Shut) shut-had }
+
+  after-draw-had : (k : ℕ) → Had (afterDraw k)
+  unfolding afterDraw
+  after-draw-had k =
+      when-elim
+      Had
+      (ltb k 250)
+      (Handshake (k + 1))
+      (Answer (Connection 0))
+      (λ e. let more = ltb-true k 250 e in draw-had (k + 1) (omega arith) (omega arith))
+      (λ e. less-false 257 0 .1 (omega arith))
+
+  compared-settles : (k : ℕ) (bit : Bool) → Settles (compared l k bit)
+  unfolding compared
+  compared-settles k bit = tested (λ e. goes-on (afterDraw k) (after-draw-had k)) (λ e. booting-settles)
+
+  after-connection-had : (k : ℕ) → Had (afterConnection k)
+  unfolding afterConnection
+  after-connection-had k =
+      when-elim
+      Had
+      (ltb k 257)
+      (Answer (Connection (k + 1)))
+      (Command 0 0)
+      (λ e. let more = ltb-true k 257 e in less-false 257 (k + 1) .1 (omega arith))
+      (λ e. less-false 31 0 .1 (omega arith))
+
+  command-taken : (command : ℕ) → 1 ≤ command → command ≤ 3 → Settles (quiet (withCommand l command) (Size 0 0))
+  command-taken command some most =
+      quiet-settles (withCommand l command) (Size 0 0) (record {
+        timely = w .timely;
+        known = most;
+        short = w .short;
+        had = size-had command 0 some (omega arith);
+      })
+
+  command-settles : (command : ℕ) → Settles (receivedCommand l command)
+  unfolding receivedCommand
+  command-settles command =
+      tested
+      (λ e. shutting-settles)
+      (λ e.
+      let other = eqb-false command 0 e in
+      tested
+      (λ f. shutting-settles)
+      (λ f. command-taken command (omega (arith, other)) (less-false 3 command .0 f)))
+
+  -- What only a listener with a command comes to. So, where its work fails, it can align on that.
+  module _ (some : 1 ≤ l .command) where
+    launching-settles : Settles (launching l)
+    launching-settles =
+        record { well = moved (Ended Launched) (less-false (l .command) 1 .1 some); badly = moved (Ended Shut) shut-had }
+
+    failed-within : Within (inPhase l (Align Failed))
+    failed-within = moved (Align Failed) (less-false (l .command) 1 .1 some)
+
+    stored-settles : Settles (stored l)
+    unfolding stored
+    stored-settles =
+        tested
+        (λ e. launching-settles)
+        (λ e.
+        let other = eqb-false (l .command) 1 e in
+        record { well = moved (Align Programmed) (less-false (l .command) 2 .1 (omega (arith, other))); badly = failed-within })
+
+    verified-settles : Settles (verified l)
+    unfolding verified
+    verified-settles = tested (λ e. shutting-settles) (λ e. launching-settles)
+
+    off-settles : Settles (quiet l (Ended Off))
+    off-settles = goes-on (Ended Off) (less-false (l .command) 1 .1 some)
+
+    size-taken : (size : ℕ) → 1 ≤ size → size ≤ 8192 → Settles (quiet (withSize l size) (Long 0 (record { 0 = 0 }) 0))
+    size-taken size more most =
+        quiet-settles (withSize l size) (Long 0 (record { 0 = 0 }) 0) (record {
+          timely = w .timely;
+          known = w .known;
+          short = most;
+          had = long-had (l .command) size 0 0 some more (omega arith);
+        })
+
+    size-settles : (size : ℕ) → Settles (receivedSize l size)
+    unfolding receivedSize
+    size-settles size =
+        tested
+        (λ e. off-settles)
+        (λ e.
+        let other = eqb-false size 0 e in
+        tested
+        (λ f. off-settles)
+        (λ f. size-taken size (omega (arith, other)) (less-false 8192 size .0 f)))
+
+    next-long-within : (k : ℕ) → k < l .size .0 → Within (inPhase l (Long 0 (record { 0 = k }) 0))
+    next-long-within k more = moved (Long 0 (record { 0 = k }) 0) (long-had (l .command) (l .size .0) k 0 some more (omega arith))
+
+    long-settles : (k : Longs) (long : ℕ) → Settles (receivedLong l k long)
+    unfolding receivedLong
+    long-settles k long =
+        tested
+        (λ e.
+        let next = next-long-within (k .0 + 1) (ltb-true (k .0 + 1) (l .size .0) e) in
+        record { well = next; badly = next })
+        (λ e. record { well = moved (Align Stored) (less-false (l .command) 1 .1 some); badly = failed-within })
+
+  acknowledged-settles : (a : Acknowledgement) → Had (Align a) → Settles (acknowledged l a)
+  acknowledged-settles Stored h = stored-settles (less-false (l .command) 1 .0 h)
+  acknowledged-settles Programmed h =
+      let more = less-false (l .command) 2 .0 h in
+      record { well = moved (Align Verified) h; badly = failed-within (omega arith) }
+  acknowledged-settles Verified h = let more = less-false (l .command) 2 .0 h in verified-settles (omega arith)
+  acknowledged-settles Failed h = shutting-settles
+
+  replied-settles : (r : Reply) → Had (Rest r) → Settles (replied l r)
+  replied-settles (Connection k) h = goes-on (afterConnection k) (after-connection-had k)
+  replied-settles (Acknowledging a) h = acknowledged-settles a h
+
+  command-read : (n bits : ℕ) → Settles (readCommand l n bits)
+  unfolding readCommand
+  command-read n bits =
+      tested
+      (λ e. let more = ltb-true n 31 e in goes-on (Command (n + 1) bits) (less-false 31 (n + 1) .1 (omega arith)))
+      (λ e. command-settles bits)
+
+  size-read : (n bits : ℕ) → sizeOutside (l .command) n ≡ false → Settles (readSize l n bits)
+  unfolding readSize sizeOutside
+  size-read n bits h =
+      let some = less-false (l .command) 1 .0 (either-false _ _ .0 h .0) in
+      tested
+      (λ e. let more = ltb-true n 31 e in goes-on (Size (n + 1) bits) (size-had (l .command) (n + 1) some (omega arith)))
+      (λ e. size-settles some bits)
+
+  long-read : (k : Longs) (n bits : ℕ) → longOutside (l .command) (l .size .0) (k .0) n ≡ false → Settles (readLong l k n bits)
+  unfolding readLong longOutside sizeOutside
+  long-read k n bits h =
+      let parts = either-false _ _ .0 h in
+      let some = less-false (l .command) 1 .0 (either-false _ _ .0 (parts .1) .0) in
+      tested
+      (λ e.
+      let more = ltb-true n 31 e in
+      goes-on (Long (n + 1) k bits) (long-had (l .command) (l .size .0) (k .0) (n + 1) some (leb-false _ _ (parts .0)) (omega arith)))
+      (λ e. long-settles some k bits)
+
+  aligned-settles : (a : Acknowledgement) (bit : Bool) → Had (Align a) → Settles (aligned l a bit)
+  unfolding aligned
+  aligned-settles a bit h = tested (λ e. goes-on (Align a) h) (λ e. goes-on (Answer (Acknowledging a)) h)
+
+  -- A timely low is at most 249,999, and so is the threshold of two of them.
+  module _ (low : ℕ) (timely : low ≤ 249999) (bit : Bool) where
+    heard-settles : (p : Phase) → Had p → Settles (heard l p low bit)
+    heard-settles First h = goes-on (Second (record { 0 = low })) (less-false 249999 low .1 timely)
+    heard-settles (Second d) h =
+        let first = less-false 249999 (d .0) .0 h in
+        quiet-settles (withThreshold l (thresholdOf (d .0) low)) (Handshake 1) (record {
+          timely = omega arith;
+          known = w .known;
+          short = w .short;
+          had = draw-had 1 (omega arith) (omega arith);
+        })
+    heard-settles (Handshake k) h = compared-settles k bit
+    heard-settles (Answer r) h = record { well = moved (Rest r) h; badly = moved (Rest r) h }
+    heard-settles (Rest r) h = replied-settles r h
+    heard-settles (Command n bits) h = command-read n (grown bits bit)
+    heard-settles (Size n bits) h = size-read n (grown bits bit) h
+    heard-settles (Long n k bits) h = long-read k n (grown bits bit) h
+    heard-settles (Align a) h = aligned-settles a bit h
+    heard-settles (Ended e) h = goes-on (Ended e) h
+
+  late-acknowledgement-had : (a : Acknowledgement) → Had (Align a) → Had (lateAcknowledgement a)
+  late-acknowledgement-had Stored h = shut-had
+  late-acknowledgement-had Programmed h = let more = less-false (l .command) 2 .0 h in less-false (l .command) 1 .1 (omega arith)
+  late-acknowledgement-had Verified h = let more = less-false (l .command) 2 .0 h in less-false (l .command) 1 .1 (omega arith)
+  late-acknowledgement-had Failed h = shut-had
+
+  late-reply-had : (r : Reply) → Had (Rest r) → Had (lateReply r)
+  late-reply-had (Connection k) h = shut-had
+  late-reply-had (Acknowledging a) h = late-acknowledgement-had a h
+
+  late-settles : (p : Phase) → Had p → Settles (afterLate l p)
+  late-settles First h = booting-settles
+  late-settles (Second d) h = booting-settles
+  late-settles (Handshake k) h = booting-settles
+  late-settles (Answer r) h = goes-on (lateReply r) (late-reply-had r h)
+  late-settles (Rest r) h = goes-on (lateReply r) (late-reply-had r h)
+  late-settles (Command n bits) h = booting-settles
+  late-settles (Size n bits) h = booting-settles
+  late-settles (Long n k bits) h = booting-settles
+  late-settles (Align a) h = booting-settles
+  late-settles (Ended e) h = goes-on (Ended e) h
+
+pub hears-settles : (l : Listener) (wait low : ℕ) → Within l → Settles (hears l wait low)
+unfolding hears late
+hears-settles l wait low w =
+    tested
+    (λ e. late-settles l w (l .phase) (w .had))
+    (λ e.
+    let timely = less-false 249999 low .0 (either-false _ _ .0 e .1) in
+    heard-settles l w low timely (reads (l .threshold .0) low) (l .phase) (w .had))
+
+pub hears-within : (l : Listener) (wait low : ℕ) → Within l → Within (hears l wait low .listener)
+hears-within l wait low w = hears-settles l wait low w .well
+
+pub step-within : (l : Listener) (wait low : ℕ) (good : Bool) → Within l → Within (settled (hears l wait low) good)
+step-within l wait low good w = settled-within (hears l wait low) good (hears-settles l wait low w)

@@ -1,0 +1,3 @@
+pub mod Kept
+pub mod Unique
+pub mod Within

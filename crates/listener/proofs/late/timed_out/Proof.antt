@@ -1,0 +1,132 @@
+-- `late::timed_out`, by phase.
+-- Assumes nothing.
+use mathlib.Core.Path.{sym, ap, _∙_}
+use Rattle.listener.specs.Late.{afterLate}
+use borrow.Author.Needs.{needs}
+use Rattle.listener.proofs.late.timed_out.Statement.{statement}
+use Rattle.listener.proofs.late.timed_out.Tie as tie
+
+enum-told : tie.Need-enum-told
+enum-told c = search needs
+
+booting-requires : tie.Need-booting-requires
+booting-requires c κs = search needs
+
+enum-told-2 : tie.Need-enum-told-2
+enum-told-2 c = search needs
+
+booting-requires-2 : tie.Need-booting-requires-2
+booting-requires-2 c κs = search needs
+
+enum-told-3 : tie.Need-enum-told-3
+enum-told-3 c = search needs
+
+booting-requires-3 : tie.Need-booting-requires-3
+booting-requires-3 c κs = search needs
+
+enum-known-phase : tie.Need-enum-known-phase
+enum-known-phase c = search needs
+
+within-reply-requires : tie.Need-within-reply-requires
+within-reply-requires c κs = search needs
+
+enum-known-phase-2 : tie.Need-enum-known-phase-2
+enum-known-phase-2 c = search needs
+
+within-reply-requires-2 : tie.Need-within-reply-requires-2
+within-reply-requires-2 c κs = search needs
+
+enum-told-4 : tie.Need-enum-told-4
+enum-told-4 c = search needs
+
+booting-requires-4 : tie.Need-booting-requires-4
+booting-requires-4 c κs = search needs
+
+enum-told-5 : tie.Need-enum-told-5
+enum-told-5 c = search needs
+
+booting-requires-5 : tie.Need-booting-requires-5
+booting-requires-5 c κs = search needs
+
+enum-told-6 : tie.Need-enum-told-6
+enum-told-6 c = search needs
+
+booting-requires-6 : tie.Need-booting-requires-6
+booting-requires-6 c κs = search needs
+
+enum-told-7 : tie.Need-enum-told-7
+enum-told-7 c = search needs
+
+booting-requires-7 : tie.Need-booting-requires-7
+booting-requires-7 c κs = search needs
+
+enum-known-phase-3 : tie.Need-enum-known-phase-3
+enum-known-phase-3 c = search needs
+
+quiet-requires : tie.Need-quiet-requires
+quiet-requires c κs = search needs
+
+returns : tie.Need-returns
+returns c = c .booting .ensures ∙ ap (afterLate (c .before .before .before .args .listener)) (sym (c .before .enum-told .given .1))
+
+returns-2 : tie.Need-returns-2
+returns-2 c = c .booting2 .ensures ∙ ap (afterLate (c .before .before .before .args .listener)) (sym (c .before .enum-told2 .given .1))
+
+returns-3 : tie.Need-returns-3
+returns-3 c = c .booting3 .ensures ∙ ap (afterLate (c .before .before .before .args .listener)) (sym (c .before .enum-told3 .given .1))
+
+returns-4 : tie.Need-returns-4
+returns-4 c = c .within-reply .ensures ∙ ap (afterLate (c .before .before .before .before .args .listener)) (sym (c .before .before .phase .given .1))
+
+returns-5 : tie.Need-returns-5
+returns-5 c = c .within-reply2 .ensures ∙ ap (afterLate (c .before .before .before .before .args .listener)) (sym (c .before .before .phase2 .given .1))
+
+returns-6 : tie.Need-returns-6
+returns-6 c = c .booting4 .ensures ∙ ap (afterLate (c .before .before .before .args .listener)) (sym (c .before .enum-told4 .given .1))
+
+returns-7 : tie.Need-returns-7
+returns-7 c = c .booting5 .ensures ∙ ap (afterLate (c .before .before .before .args .listener)) (sym (c .before .enum-told5 .given .1))
+
+returns-8 : tie.Need-returns-8
+returns-8 c = c .booting6 .ensures ∙ ap (afterLate (c .before .before .before .args .listener)) (sym (c .before .enum-told6 .given .1))
+
+returns-9 : tie.Need-returns-9
+returns-9 c = c .booting7 .ensures ∙ ap (afterLate (c .before .before .before .args .listener)) (sym (c .before .enum-told7 .given .1))
+
+returns-10 : tie.Need-returns-10
+returns-10 c = c .quiet .ensures ∙ ap (afterLate (c .before .before .before .before .args .listener)) (sym (c .before .before .phase3 .given .1))
+
+pub timed-out-spec : {M : Type 1} → statement M
+timed-out-spec =
+    tie.close
+    (tie.spec
+    enum-told
+    booting-requires
+    enum-told-2
+    booting-requires-2
+    enum-told-3
+    booting-requires-3
+    enum-known-phase
+    within-reply-requires
+    enum-known-phase-2
+    within-reply-requires-2
+    enum-told-4
+    booting-requires-4
+    enum-told-5
+    booting-requires-5
+    enum-told-6
+    booting-requires-6
+    enum-told-7
+    booting-requires-7
+    enum-known-phase-3
+    quiet-requires
+    returns
+    returns-2
+    returns-3
+    returns-4
+    returns-5
+    returns-6
+    returns-7
+    returns-8
+    returns-9
+    returns-10)

@@ -1,0 +1,4 @@
+pub mod Memories
+pub mod Pages
+pub mod Turns
+pub mod Unique

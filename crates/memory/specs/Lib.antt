@@ -1,0 +1,3 @@
+pub mod Eeprom
+pub mod Page
+pub mod Ram

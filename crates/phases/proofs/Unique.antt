@@ -1,0 +1,14 @@
+-- Each public call has one answer. `Post` is the promise that is generated from the call's contract.
+-- Assumes nothing.
+use mathlib.Core.Path.{sym, _∙_}
+use Rattle.terms.proofs.Answers.{OneAnswer}
+use Rattle.phases.proofs.Phase.has_ended.Kinds as has-ended-kinds
+use Rattle.phases.proofs.Phase.has_ended.Reads as has-ended
+use Rattle.phases.proofs.Phase.is_outside.Kinds as is-outside-kinds
+use Rattle.phases.proofs.Phase.is_outside.Reads as is-outside
+
+pub has-ended-one : OneAnswer has-ended-kinds.ps has-ended-kinds.r has-ended.Post
+has-ended-one κs a r₁ r₂ e₁ e₂ p q = p ∙ sym q
+
+pub is-outside-one : OneAnswer is-outside-kinds.ps is-outside-kinds.r is-outside.Post
+is-outside-one κs a r₁ r₂ e₁ e₂ p q = p ∙ sym q
