@@ -1,3 +1,5 @@
+pub mod Listening
 pub mod Reached
 pub mod Steps
 pub mod Unique
+pub mod Within

@@ -13,8 +13,8 @@ use Rattle.terms.proofs.Tests.{either-false, less-false}
 use Rattle.listener.specs.Hears.{hears}
 use Rattle.listener.specs.declared.Event.{Event}
 use Rattle.listener.specs.declared.Event.the-variants.{Nothing, Store, Finish, Program, Verify, Launch, Boot}
-use Rattle.listener.proofs.Kept.{fresh-within, step-within}
-use Rattle.listener.proofs.Within.{Within, listener-within}
+use Rattle.chip.proofs.Listening.{fresh-within, step-within}
+use Rattle.chip.proofs.Within.{Within, listener-within}
 use Rattle.memory.specs.Eeprom.{faultOutside, after}
 use Rattle.memory.specs.declared.Fault.{Fault}
 use Rattle.memory.specs.declared.Fault.the-variants.{None, Accepts, Reads}

@@ -18,15 +18,15 @@ use Rattle.phases.specs.declared.Phase.{Phase}
 use Rattle.phases.specs.declared.Phase.the-variants.{First, Second, Handshake, Answer, Rest, Command, Size, Long, Align, Ended}
 use Rattle.phases.specs.declared.Reply.{Reply}
 use Rattle.phases.specs.declared.Reply.the-variants.{Connection, Acknowledging}
 use Rattle.listener.specs.Heard.{inPhase, withThreshold, withCommand, withSize, quiet, booting, launching, shutting}
 use Rattle.listener.specs.Heard.{afterDraw, compared, afterConnection, stored, verified, acknowledged, replied}
 use Rattle.listener.specs.Heard.{receivedCommand, receivedSize, receivedLong, readCommand, readSize, readLong, aligned, heard}
 use Rattle.listener.specs.Hears.{hears, failed, settled}
 use Rattle.listener.specs.Late.{late, lateAcknowledgement, lateReply, afterLate}
 use Rattle.listener.specs.Reading.{thresholdOf, reads, grown}
 use Rattle.listener.specs.declared.Heard.{Heard}
 use Rattle.listener.specs.declared.Listener.{Listener}
-use Rattle.listener.proofs.Within.{Within}
+use Rattle.chip.proofs.Within.{Within}
 
 pub fresh-within : Within (record { threshold = record { 0 = 0 }; command = 0; size = record { 0 = 0 }; phase = First })
 fresh-within = record { timely = omega arith; known = omega arith; short = omega arith; had = refl }
