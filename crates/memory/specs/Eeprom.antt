@@ -11,7 +11,7 @@ use Rattle.memory.specs.declared.Fault.{Fault}
 use Rattle.memory.specs.declared.Fault.the-variants.{None, Accepts, Reads}
 use Rattle.memory.specs.declared.Done.{Done}
 
--- 12: it accepts n pages, 0 to 512; the byte at an address below 32,768 reads as another.
+-- 12: a fault out of its range, which is n pages from 0 to 512, or an address a below 32,768.
 abbrev pub faultOutside : Fault → Bool
 faultOutside None = false
 faultOutside (Accepts n) = ltb 512 n
@@ -39,6 +39,7 @@ accepts None = 512
 accepts (Accepts left) = min left 512
 accepts (Reads v a) = 512
 
+-- Those that a programming of both memories writes: none where one of the two is not of its size.
 unfoldable pub accepted : Fault → List ℕ → List ℕ → ℕ
 accepted fault ram eeprom = when (whole ram eeprom) (accepts fault) 0
 
@@ -70,6 +71,7 @@ same (x ∷ xs) (y ∷ ys) = both (eqb x y) (same xs ys)
 unfoldable pub verifies : Fault → List ℕ → List ℕ → Bool
 verifies fault ram eeprom = both (acknowledges fault) (same ram (reads fault eeprom))
 
+-- RAM can be read whole from it: both are of their size, and it acknowledges.
 unfoldable pub readable : Fault → List ℕ → List ℕ → Bool
 readable fault ram eeprom = both (whole ram eeprom) (acknowledges fault)
 

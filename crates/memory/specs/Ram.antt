@@ -26,7 +26,7 @@ flagAt d below = (d + 65536 - below) % 65536 / 4 * 4
 
 -- The bytes FF FF F9 FF at an address; at 32,768 or above nothing is stored.
 unfoldable pub flagStored : ℕ → List ℕ → List ℕ
-flagStored at ram = when (ltb at 32768) (stored at 4294574079 ram) ram
+flagStored at ram = when (ltb at 32768) (stored at 0xFFF9FFFF ram) ram
 
 -- They are stored at D - 4 and then at D - 8.
 abbrev pub flaggedBelow : ℕ → List ℕ → List ℕ
