@@ -1,0 +1,229 @@
+-- A host that stands where the session begins sends it whole: each call keeps the host at the list's next pulse, at the time at which
+-- that pulse falls, with the counts of the pulses before it.
+-- Assumes nothing.
+use mathlib.Core.Bool.{Bool, false}
+use mathlib.Core.List.{List, _∷_}
+use mathlib.Core.Path.{_≡_, refl, sym, ap, _∙_, subst}
+use Prim.Native.Nat.{ℕ, zero, suc, _+_, _*_, _≤_, _<_}
+use native.Mathlib.Nat.{div-mul-le-self, lt-div-mul-add}
+use native.Mathlib.Numerals.{add-one}
+use native.Mathlib.Omega.{arith}
+use lib.ListN.{length, take, drop}
+use lib.Seq.{drop-cons, drop-length}
+use Rattle.terms.specs.Choice.{when}
+use Rattle.terms.specs.Refusals.{Answer, refused, taken}
+use Rattle.terms.proofs.Refusals.{clear-taken}
+use Rattle.terms.proofs.Tests.{when-true, when-false}
+use Rattle.load.specs.declared.Load.{Load}
+use Rattle.load.specs.declared.Settings.{Settings}
+use Rattle.units.specs.declared.Seen.{Seen}
+use Rattle.units.specs.declared.Ticks.{Ticks}
+use Rattle.place.specs.Bits.{sentBit}
+use Rattle.place.specs.Follow.{opened, next}
+use Rattle.place.specs.Phases.{imagePulses, ended}
+use Rattle.place.specs.Ranges.{before}
+use Rattle.place.specs.declared.Phase.the-variants.{Ended}
+use Rattle.place.specs.declared.Place.{Place}
+use Rattle.session.specs.Step.{otherImage, stepRows, pulseOf, sessionStep}
+use Rattle.session.specs.declared.Pulse.{Pulse}
+use Rattle.session.proofs.Within.{session-within, pulses-most}
+use Rattle.host.specs.Step.{timed, hostStep}
+use Rattle.host.specs.Time.{low, spacer, tick}
+use Rattle.host.specs.declared.Host.{Host}
+use Rattle.host.specs.declared.Sent.{Sent}
+use Rattle.host.proofs.Kept.{Kept, step-keeps}
+use Rattle.host.proofs.Steps.{fits, step-sent, step-refused}
+use Rattle.sessions.specs.Sessions.{ones, zeros, session, many, pulse, edge, Sends}
+use Rattle.sessions.specs.Spelled.{Mark, Spelled}
+use Rattle.sessions.proofs.Edges.{rise-after, fall-after, ones-more, zeros-more}
+use Rattle.sessions.proofs.Follows.{Follows, GoesOn, pulse-left, none-left}
+
+module _ (s : Settings) (load : Load) (size : ℕ) (lent : ℕ → List ℕ) (seen : ℕ → Seen)
+    (same : (n : ℕ) → otherImage load (lent n) ≡ false) where
+  abbrev whole : Spelled
+  whole = session s (load .command) size lent seen
+
+  abbrev count : ℕ
+  count = many s (load .command) size lent seen
+
+  abbrev mark : ℕ → Mark
+  mark = pulse s (load .command) size lent seen
+
+  abbrev time : ℕ → ℕ
+  time = edge s (load .command) size lent seen
+
+  -- The host before call n.
+  pub record At (n : ℕ) (x : Host) : Type 0 where
+    pub kept : Kept x
+    pub set : x .settings ≡ s
+    pub loaded : x .session .load ≡ load
+    pub left : Follows load lent seen n (x .session .place) (drop n (whole .pulses)) (whole .ending)
+    pub falls : x .time ≡ time (2 * n)
+    pub counted : x .session .pulses ≡ n
+    pub counted-ones : x .session .ones ≡ ones (take n (whole .pulses))
+    pub counted-zeros : x .session .zeros ≡ zeros (take n (whole .pulses))
+
+  -- One call.
+  module _ (n : ℕ) (x : Host) (at : At n x) (h : n < count) where
+    abbrev place : Place
+    place = x .session .place
+
+    abbrev sending : Pulse
+    sending = pulseOf (x .session) (lent n) (seen n)
+
+    goes : GoesOn load lent seen n place (mark n) (drop (suc n) (whole .pulses)) (whole .ending)
+    goes =
+        let more : drop n (whole .pulses) ≡ mark n ∷ drop (suc n) (whole .pulses) = drop-cons (whole .pulses) n _ h in
+        pulse-left load lent seen n place (mark n) _ _
+        (subst (λ (marks : List Mark). Follows load lent seen n place marks (whole .ending)) more (at .left))
+
+    session-sends : sessionStep (x .session) (lent n) (seen n) ≡ taken sending
+    unfolding sessionStep
+    session-sends =
+        let image : otherImage (x .session .load) (lent n) ≡ false = ap (λ (l : Load). otherImage l (lent n)) (at .loaded) ∙ same n in
+        clear-taken sending (stepRows (x .session) (lent n)) (session-within (x .session) .1 (at .kept .within), (goes .on, (image, tt)))
+
+    host-sends : hostStep x (lent n) (seen n) ≡ taken (timed x sending)
+    host-sends = step-sent x (at .kept .own) (lent n) (seen n) sending session-sends
+
+    same-bit : sending .bit ≡ mark n .bit
+    same-bit = ap (λ (l : Load). sentBit l (lent n) (place .phase) (place .index)) (at .loaded) ∙ ap (λ (m : Mark). m .bit) (goes .is)
+
+    same-silent : sending .silent ≡ mark n .silent
+    same-silent = ap (λ (m : Mark). m .silent) (goes .is)
+
+    rises : x .time + low (x .settings) (sending .bit) ≡ time (2 * n + 1)
+    rises =
+        let lasts : low (x .settings) (sending .bit) ≡ low s (mark n .bit) =
+        ap (λ (y : Settings). low y (sending .bit)) (at .set) ∙ ap (low s) same-bit in
+        omega (arith, at .falls, lasts, rise-after s (whole .pulses) n (record { bit = false; silent = false }) h)
+
+    falls-next : x .time + low (x .settings) (sending .bit) + spacer (x .settings) (sending .silent) ≡ time (2 * suc n)
+    falls-next =
+        let lasts : spacer (x .settings) (sending .silent) ≡ spacer s (mark n .silent) =
+        ap (λ (y : Settings). spacer y (sending .silent)) (at .set) ∙ ap (spacer s) same-silent in
+        omega (arith, rises, lasts, fall-after s (whole .pulses) n (record { bit = false; silent = false }) h)
+
+    left-next : Follows load lent seen (suc n) (sending .session .place) (drop (suc n) (whole .pulses)) (whole .ending)
+    left-next =
+        let there : sending .session .place ≡ next load (place .phase) (place .index) (seen n) =
+        ap (λ (l : Load). next l (place .phase) (place .index) (seen n)) (at .loaded) in
+        subst (λ (m : ℕ). Follows load lent seen m (sending .session .place) (drop (suc n) (whole .pulses)) (whole .ending)) (add-one n)
+        (subst (λ (q : Place). Follows load lent seen (n + 1) q (drop (suc n) (whole .pulses)) (whole .ending)) (sym there) (goes .rest))
+
+    at-next : At (suc n) (timed x sending .host)
+    at-next = record {
+      kept = step-keeps x (lent n) (seen n) (timed x sending) host-sends;
+      set = at .set;
+      loaded = at .loaded;
+      left = left-next;
+      falls = falls-next;
+      counted = ap (λ (k : ℕ). k + 1) (at .counted) ∙ add-one n;
+      counted-ones =
+          ap (λ (k : ℕ). k + when (sending .bit) 1 0) (at .counted-ones)
+          ∙ ap (λ (b : Bool). ones (take n (whole .pulses)) + when b 1 0) same-bit
+          ∙ sym (ones-more (whole .pulses) n _ h);
+      counted-zeros =
+          ap (λ (k : ℕ). k + when (sending .bit) 0 1) (at .counted-zeros)
+          ∙ ap (λ (b : Bool). zeros (take n (whole .pulses)) + when b 0 1) same-bit
+          ∙ sym (zeros-more (whole .pulses) n _ h);
+    }
+
+  -- All calls: the hosts one after the other. One that refuses stays as it is.
+  abbrev handed : Host → Answer Sent → Host
+  handed x (refused k) = x
+  handed x (taken r) = r .host
+
+  module _ (x : Host) (start : At 0 x) where
+    abbrev hosts : ℕ → Host
+    hosts zero = x
+    hosts (suc n) = handed (hosts n) (hostStep (hosts n) (lent n) (seen n))
+
+    abbrev last : Host
+    last = hosts count
+
+    hosts-suc : (n : ℕ) (at : At n (hosts n)) (h : n < count) → hosts (suc n) ≡ timed (hosts n) (sending n (hosts n) at h) .host
+    hosts-suc n at h = ap (handed (hosts n)) (host-sends n (hosts n) at h)
+
+    hosts-at : (n : ℕ) → n ≤ count → At n (hosts n)
+    hosts-at zero h = start
+    hosts-at (suc n) h =
+        let at = hosts-at n (omega (arith, h)) in
+        subst (At (suc n)) (sym (hosts-suc n at h)) (at-next n (hosts n) at h)
+
+    module _ (n : ℕ) (h : n < count) where
+      here : At n (hosts n)
+      here = hosts-at n (omega (arith, h))
+
+      abbrev now-sending : Pulse
+      now-sending = sending n (hosts n) here h
+
+      next-host : timed (hosts n) now-sending .host ≡ hosts (n + 1)
+      next-host = sym (hosts-suc n here h) ∙ ap hosts (sym (add-one n))
+
+      step-is : hostStep (hosts n) (lent n) (seen n)
+          ≡ taken (record { host = hosts (n + 1); fall = tick s (time (2 * n)); rise = tick s (time (2 * n + 1)) })
+      step-is =
+          let ticks : (a b : ℕ) → a ≡ b → tick (hosts n .settings) a ≡ tick s b =
+          λ a b e. ap (λ (y : Settings). tick y a) (here .set) ∙ ap (tick s) e in
+          let sent = timed (hosts n) now-sending in
+          host-sends n (hosts n) here h
+          ∙ ap (λ (y : Host). taken (record { host = y; fall = sent .fall; rise = sent .rise })) next-host
+          ∙ ap (λ (y : Ticks). taken (record { host = hosts (n + 1); fall = y; rise = sent .rise })) (ticks _ _ (here .falls))
+          ∙ ap (λ (y : Ticks). taken (record { host = hosts (n + 1); fall = tick s (time (2 * n)); rise = y }))
+          (ticks _ _ (rises n (hosts n) here h))
+
+      pulse-is : sessionStep (hosts n .session) (lent n) (seen n)
+          ≡ taken (record { bit = mark n .bit; silent = mark n .silent; session = hosts (n + 1) .session })
+      pulse-is =
+          let sent = now-sending in
+          session-sends n (hosts n) here h
+          ∙ ap (λ (b : Bool). taken (record { bit = b; silent = sent .silent; session = sent .session })) (same-bit n (hosts n) here h)
+          ∙ ap (λ (b : Bool). taken (record { bit = mark n .bit; silent = b; session = sent .session })) (same-silent n (hosts n) here h)
+          ∙ ap (λ (y : Host). taken (record { bit = mark n .bit; silent = mark n .silent; session = y .session })) next-host
+
+    at-last : At count last
+    at-last = hosts-at count (omega arith)
+
+    ends : last .session .place ≡ opened (Ended (whole .ending))
+    ends =
+        none-left load lent seen count (last .session .place) (whole .ending)
+        (subst (λ (marks : List Mark). Follows load lent seen count (last .session .place) marks (whole .ending))
+        (drop-length (whole .pulses)) (at-last .left))
+
+    refuses : (image : List ℕ) (seen′ : Seen) → hostStep last image seen′ ≡ refused 14
+    unfolding sessionStep
+    refuses image seen′ =
+        step-refused last (at-last .kept .own) image seen′ 14
+        (when-false _ _ (session-within (last .session) .1 (at-last .kept .within))
+        ∙ when-true _ _ (ap (λ (q : Place). ended (q .phase)) ends))
+
+    -- No more pulses than can be before an ended session's place.
+    few : count ≤ 832 + imagePulses load + 1450
+    few =
+        let most : before (last .session .load) (last .session .place .phase) + last .session .place .index
+        ≡ 832 + imagePulses load + 1450 + 0 =
+        ap (λ (q : Place). before (last .session .load) (q .phase) + q .index) ends
+        ∙ ap (λ (l : Load). before l (Ended (whole .ending)) + 0) (at-last .loaded) in
+        omega (arith, at-last .counted, at-last .kept .within .stands .sent, most)
+
+    some-tick : 0 < s .p
+    some-tick = subst (λ (y : Settings). 0 < y .p) (start .set) (omega (arith, fits x (start .kept .own) .p-within .0))
+
+    pub plays : load .length .0 ≤ size → Sends s (load .command) size lent seen x
+    plays short = record {
+      hosts = hosts;
+      first = refl;
+      steps = step-is;
+      pulses = pulse-is;
+      going = λ n h. goes n (hosts n) (here n h) h .on;
+      ending = ap (λ (q : Place). q .phase) ends;
+      closed = refuses;
+      counted = λ n h. hosts-at n h .counted;
+      counted-ones = λ n h. hosts-at n h .counted-ones;
+      counted-zeros = λ n h. hosts-at n h .counted-zeros;
+      not-late = λ k. div-mul-le-self (time k) (s .p);
+      early = λ k. lt-div-mul-add some-tick;
+      bound = omega (arith, few, short);
+      longest = omega (arith, at-last .counted, pulses-most (last .session) (session-within (last .session) .1 (at-last .kept .within)));
+    }

@@ -1,0 +1,1 @@
+// A host's whole sessions: specs/ has the statement, and proofs/ its proof. It has no function.
