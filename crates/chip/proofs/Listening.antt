@@ -278,8 +278,5 @@ hears-settles l wait low w =
     let timely = less-false 249999 low .0 (either-false _ _ .0 e .1) in
     heard-settles l w low timely (reads (l .threshold .0) low) (l .phase) (w .had))
 
-pub hears-within : (l : Listener) (wait low : ℕ) → Within l → Within (hears l wait low .listener)
-hears-within l wait low w = hears-settles l wait low w .well
-
 pub step-within : (l : Listener) (wait low : ℕ) (good : Bool) → Within l → Within (settled (hears l wait low) good)
 step-within l wait low good w = settled-within (hears l wait low) good (hears-settles l wait low w)

@@ -7,7 +7,8 @@ use Prim.Native.Nat.{ℕ}
 use denote.Ref.{now}
 use Rattle.terms.specs.Refusals.{Answer, refused, taken}
 use Rattle.terms.proofs.Answers.{OneAnswer, OneOutcome, one-told}
-use Rattle.units.proofs.Lines.{seen, seen-told}
+use Rattle.units.proofs.Lines.{seen-told}
+use Rattle.units.specs.Line.{seen}
 use Rattle.units.specs.declared.Seen.{Seen}
 use Rattle.chip.specs.Step.{Reply, Left, left, toldStarted, toldStepped}
 use Rattle.chip.specs.declared.Chip.{Chip}

@@ -1,0 +1,128 @@
+-- What holds from a run's start on: both records lie in their ranges and both memories keep their sizes, so that neither side refuses a
+-- pulse before the host has ended.
+-- Assumes nothing.
+use mathlib.Core.Bool.{false}
+use mathlib.Core.List.{List}
+use mathlib.Core.Path.{_≡_, refl, sym, ap, _∙_, subst}
+use Prim.Native.Nat.{ℕ, _+_}
+use native.Mathlib.Omega.{arith}
+use lib.ListN.{length}
+use Rattle.terms.specs.Refusals.{refused, taken}
+use Rattle.terms.proofs.Refusals.{agrees, clear-taken}
+use Rattle.terms.proofs.Tests.{when-elim}
+use Rattle.session.specs.Step.{otherImage, pulseOf}
+use Rattle.session.proofs.Within.{session-within}
+use Rattle.host.specs.Step.{hostRows, hostStep, timed}
+use Rattle.host.specs.declared.Sent.{Sent}
+use Rattle.host.proofs.Kept.{Kept, step-keeps}
+use Rattle.phases.specs.Phases as chip
+use Rattle.listener.specs.Hears.{hears}
+use Rattle.listener.specs.declared.Event.{Event}
+use Rattle.listener.specs.declared.Event.the-variants.{Nothing, Store, Finish, Program, Verify, Launch, Boot}
+use Rattle.memory.specs.declared.Fault.{Fault}
+use Rattle.memory.proofs.Memories.{stored-length, zeroed-length, flagged-length, programmed-length, booted-length}
+use Rattle.chip.specs.Work.{done}
+use Rattle.chip.specs.Step.{Left, chipStep, pulse}
+use Rattle.chip.proofs.Reached.{Reached, stepped, chip-kept, reached-kept}
+use Rattle.chip.proofs.Steps.{step-played}
+use Rattle.joined.specs.Ends.{Unrefused}
+use Rattle.joined.specs.Joined.{State, Measuring, listened, sees, replied, met, sentTo, sent, pulsed, hostEnded}
+
+-- What is known of both sides between two pulses.
+pub record Sound (image : List ℕ) (s : State) : Type 0 where
+  pub kept : Kept (s .host)
+  pub lent : otherImage (s .host .session .load) image ≡ false
+  pub reached : Reached (s .chip)
+  pub ram-size : length (s .ram) ≡ 32768
+  pub eeprom-size : length (s .eeprom) ≡ 32768
+
+-- Work on the memories keeps their sizes.
+done-ram : (fault : Fault) (event : Event) (ram eeprom : List ℕ) → length (done fault event ram eeprom .ram) ≡ length ram
+done-ram fault Nothing ram eeprom = refl
+done-ram fault (Store k long) ram eeprom = stored-length _ long ram
+done-ram fault (Finish k long) ram eeprom = flagged-length _ ∙ zeroed-length _ _ ∙ stored-length _ long ram
+done-ram fault Program ram eeprom = refl
+done-ram fault Verify ram eeprom = refl
+done-ram fault Launch ram eeprom = refl
+done-ram fault Boot ram eeprom = booted-length fault ram eeprom
+
+done-eeprom : (fault : Fault) (event : Event) (ram eeprom : List ℕ) → length (done fault event ram eeprom .eeprom) ≡ length eeprom
+done-eeprom fault Nothing ram eeprom = refl
+done-eeprom fault (Store k long) ram eeprom = refl
+done-eeprom fault (Finish k long) ram eeprom = refl
+done-eeprom fault Program ram eeprom = programmed-length fault ram eeprom
+done-eeprom fault Verify ram eeprom = refl
+done-eeprom fault Launch ram eeprom = refl
+done-eeprom fault Boot ram eeprom = refl
+
+module _ (measured : Measuring) (image : List ℕ) (s : State) (k : Sound image s) (going : hostEnded s ≡ false) where
+  -- The pulse that the host sends.
+  abbrev pub shot : Sent
+  shot =
+      timed (s .host)
+      (pulseOf (s .host .session) image (sees (s .host .session .place .phase) (s .host .session .place .index) (s .reply)))
+
+  pub host-sends : sent image s ≡ taken shot
+  unfolding hostStep
+  host-sends =
+      clear-taken shot (hostRows (s .host) image)
+      (k .kept .own, (session-within (s .host .session) .1 (k .kept .within), (going, (k .lent, tt))))
+
+  -- What is said of what the chip leaves.
+  record Fine (l : Left) : Type 0 where
+    pub reached : Reached (replied (s .chip) (l .answer) .chip)
+    pub ram-size : length (l .ram) ≡ 32768
+    pub eeprom-size : length (l .eeprom) ≡ 32768
+    pub unrefused : (n : ℕ) → l .answer ≡ refused n → ⊥
+
+  pub chip-plays : chip.ended (s .chip .listener .phase) ≡ false → (wait low : ℕ)
+      → pulse (s .chip) (s .ram) (s .eeprom) (hears (s .chip .listener) wait low) ≡ chipStep (s .chip) (s .ram) (s .eeprom) wait low
+  chip-plays e wait low =
+      step-played (s .chip) (s .ram) (s .eeprom) wait low
+      (agrees _ _ (k .ram-size), (agrees _ _ (k .eeprom-size), (chip-kept (s .chip) .1 (reached-kept (s .chip) (k .reached)), (e, tt))))
+
+  plays-fine : chip.ended (s .chip .listener .phase) ≡ false → (wait low : ℕ) → Fine (chipStep (s .chip) (s .ram) (s .eeprom) wait low)
+  plays-fine e wait low =
+      let heard = hears (s .chip .listener) wait low in
+      subst Fine (chip-plays e wait low) (record {
+        reached = stepped (s .chip) (s .ram) (s .eeprom) wait low _ _ _ (k .reached) (sym (chip-plays e wait low));
+        ram-size = done-ram (s .chip .fault) (heard .event) (s .ram) (s .eeprom) ∙ k .ram-size;
+        eeprom-size = done-eeprom (s .chip .fault) (heard .event) (s .ram) (s .eeprom) ∙ k .eeprom-size;
+        unrefused = λ n q. let z : _≡_ {A = ℕ} 0 1 = cc in absurd (omega arith);
+      })
+
+  listened-fine : Fine (listened measured s shot)
+  unfolding listened
+  listened-fine =
+      when-elim
+      Fine
+      (chip.ended (s .chip .listener .phase))
+      _
+      _
+      (λ e. record {
+        reached = k .reached;
+        ram-size = k .ram-size;
+        eeprom-size = k .eeprom-size;
+        unrefused = λ n q. let z : _≡_ {A = ℕ} 0 1 = cc in absurd (omega arith);
+      })
+      (λ e. plays-fine e _ _)
+
+  pub pulsed-met : pulsed measured image s ≡ met (s .chip) shot (listened measured s shot)
+  unfolding pulsed
+  pulsed-met = ap (sentTo measured s) host-sends
+
+  pub pulsed-sound : Sound image (pulsed measured image s)
+  pulsed-sound =
+      subst (Sound image) (sym pulsed-met) (record {
+        kept = step-keeps (s .host) image _ shot host-sends;
+        lent = k .lent;
+        reached = listened-fine .reached;
+        ram-size = listened-fine .ram-size;
+        eeprom-size = listened-fine .eeprom-size;
+      })
+
+  pub pulsed-count : pulsed measured image s .host .session .pulses ≡ s .host .session .pulses + 1
+  pulsed-count = ap (λ (x : State). x .host .session .pulses) pulsed-met
+
+  pub unrefused-here : Unrefused measured image s
+  unrefused-here = record { pulse = shot; by-host = host-sends; by-chip = λ e n q. listened-fine .unrefused n q }

@@ -1,0 +1,106 @@
+-- `pulses::sees` goes by the phase.
+-- Assumes nothing.
+use borrow.Author.Needs.{needs}
+use Rattle.joined.proofs.pulses.sees.Statement.{statement}
+use Rattle.joined.proofs.pulses.sees.Tie as tie
+
+enum-told : tie.Need-enum-told
+enum-told c = search needs
+
+around-first-requires : tie.Need-around-first-requires
+around-first-requires c κs = search needs
+
+enum-told-2 : tie.Need-enum-told-2
+enum-told-2 c = search needs
+
+enum-told-3 : tie.Need-enum-told-3
+enum-told-3 c = search needs
+
+around-first-requires-2 : tie.Need-around-first-requires-2
+around-first-requires-2 c κs = search needs
+
+enum-told-4 : tie.Need-enum-told-4
+enum-told-4 c = search needs
+
+around-first-requires-3 : tie.Need-around-first-requires-3
+around-first-requires-3 c κs = search needs
+
+enum-told-5 : tie.Need-enum-told-5
+enum-told-5 c = search needs
+
+enum-told-6 : tie.Need-enum-told-6
+enum-told-6 c = search needs
+
+enum-told-7 : tie.Need-enum-told-7
+enum-told-7 c = search needs
+
+enum-told-8 : tie.Need-enum-told-8
+enum-told-8 c = search needs
+
+enum-told-9 : tie.Need-enum-told-9
+enum-told-9 c = search needs
+
+around-first-requires-4 : tie.Need-around-first-requires-4
+around-first-requires-4 c κs = search needs
+
+enum-told-10 : tie.Need-enum-told-10
+enum-told-10 c = search needs
+
+returns : tie.Need-returns
+returns c = rw (c .before .enum-told .given .1) (c .around-first .ensures)
+
+returns-2 : tie.Need-returns-2
+returns-2 c = search needs
+
+returns-3 : tie.Need-returns-3
+returns-3 c = rw (c .before .enum-told3 .given .1) (c .around-first2 .ensures)
+
+returns-4 : tie.Need-returns-4
+returns-4 c = rw (c .before .enum-told4 .given .1) (c .around-first3 .ensures)
+
+returns-5 : tie.Need-returns-5
+returns-5 c = search needs
+
+returns-6 : tie.Need-returns-6
+returns-6 c = search needs
+
+returns-7 : tie.Need-returns-7
+returns-7 c = search needs
+
+returns-8 : tie.Need-returns-8
+returns-8 c = search needs
+
+returns-9 : tie.Need-returns-9
+returns-9 c = rw (c .before .enum-told9 .given .1) (c .around-first4 .ensures)
+
+returns-10 : tie.Need-returns-10
+returns-10 c = search needs
+
+pub sees-spec : {M : Type 1} → statement M
+sees-spec =
+    tie.close
+    (tie.spec
+    enum-told
+    around-first-requires
+    enum-told-2
+    enum-told-3
+    around-first-requires-2
+    enum-told-4
+    around-first-requires-3
+    enum-told-5
+    enum-told-6
+    enum-told-7
+    enum-told-8
+    enum-told-9
+    around-first-requires-4
+    enum-told-10
+    returns
+    returns-2
+    returns-3
+    returns-4
+    returns-5
+    returns-6
+    returns-7
+    returns-8
+    returns-9
+    returns-10)
