@@ -1,0 +1,13 @@
+pub mod Closing
+pub mod Computed
+pub mod Conversations
+pub mod FinalRam
+pub mod Images
+pub mod Loading
+pub mod Longs
+pub mod Opening
+pub mod Pulses
+pub mod Reaching
+pub mod Receiving
+pub mod Sending
+pub mod Values

@@ -1,0 +1,2 @@
+pub mod Conversation
+pub mod Final

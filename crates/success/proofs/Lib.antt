@@ -1,0 +1,7 @@
+pub mod Calibration
+pub mod Clock
+pub mod Meeting
+pub mod Simulation
+pub mod Succeeding
+pub mod Thresholds
+pub mod Timing

@@ -1,0 +1,2 @@
+pub mod Met
+pub mod Success
