@@ -1,8 +1,8 @@
 // The chip model written plainly in Rust, with the refusals and the answers of the crate `chip`, and the program of crates/fullest over
-// it: what the proved chip's instructions are compared with.
+// it: what the proved chip's instructions are compared with. bench/planned.rs has it as a module.
 
 #[derive(Clone, Copy)]
-enum Seen {
+pub enum Seen {
     Silence,
     Zero,
     One,
@@ -10,14 +10,14 @@ enum Seen {
 
 #[derive(Clone, Copy)]
 #[allow(dead_code)]
-enum Fault {
+pub enum Fault {
     None,
     Accepts(u32),
     Reads(u8, usize),
 }
 
 #[derive(Clone, Copy)]
-enum Acknowledgement {
+pub enum Acknowledgement {
     Stored,
     Programmed,
     Verified,
@@ -25,13 +25,13 @@ enum Acknowledgement {
 }
 
 #[derive(Clone, Copy)]
-enum Reply {
+pub enum Reply {
     Connection(u32),
     Acknowledging(Acknowledgement),
 }
 
 #[derive(Clone, Copy)]
-enum Ending {
+pub enum Ending {
     Launched,
     Booted,
     Shut,
@@ -39,7 +39,7 @@ enum Ending {
 }
 
 #[derive(Clone, Copy)]
-enum Phase {
+pub enum Phase {
     First,
     Second(u32),
     Handshake(u32),
@@ -53,15 +53,15 @@ enum Phase {
 }
 
 #[derive(Clone, Copy)]
-struct Chip {
+pub struct Chip {
     fault: Fault,
     threshold: u32,
     command: u32,
     size: u32,
-    phase: Phase,
+    pub phase: Phase,
 }
 
-const MEMORY: usize = 32_768;
+pub const MEMORY: usize = 32_768;
 const PAGE: usize = 64;
 const PAGES: u32 = 512;
 const LAST_TIMELY: u32 = 249_999;
@@ -149,7 +149,7 @@ impl Reply {
 }
 
 impl Chip {
-    fn start(ram: &[u8], eeprom: &[u8], fault: Fault) -> Result<Chip, u8> {
+    pub fn start(ram: &[u8], eeprom: &[u8], fault: Fault) -> Result<Chip, u8> {
         if ram.len() != MEMORY {
             return Err(10);
         }
@@ -181,7 +181,7 @@ impl Chip {
             }
     }
 
-    fn step(mut self, ram: &mut [u8], eeprom: &mut [u8], wait: u32, low: u32) -> Result<(Chip, Seen), u8> {
+    pub fn step(mut self, ram: &mut [u8], eeprom: &mut [u8], wait: u32, low: u32) -> Result<(Chip, Seen), u8> {
         if ram.len() != MEMORY {
             return Err(10);
         }

@@ -1,22 +1,22 @@
 // The host planner written plainly in Rust, with the refusals and the answers of the crate `host`, and the program of crates/longest
-// over it: what the proved planner's instructions are compared with.
+// over it: what the proved planner's instructions are compared with. bench/planned.rs has it as a module.
 
 #[derive(Clone, Copy)]
-enum Seen {
+pub enum Seen {
     Silence,
     Zero,
     One,
 }
 
 #[derive(Clone, Copy)]
-enum Acknowledgement {
+pub enum Acknowledgement {
     Ram,
     Programming,
     Verification,
 }
 
 #[derive(Clone, Copy)]
-enum Ending {
+pub enum Ending {
     Done,
     Lost,
     WrongVersion,
@@ -26,7 +26,7 @@ enum Ending {
 }
 
 #[derive(Clone, Copy)]
-enum Phase {
+pub enum Phase {
     Calibration,
     Handshake,
     Connection,
@@ -40,29 +40,29 @@ enum Phase {
 }
 
 #[derive(Clone, Copy)]
-struct Host {
+pub struct Host {
     t: u32,
     h: u32,
     p: u32,
     command: u32,
     length: usize,
-    phase: Phase,
-    index: u32,
+    pub phase: Phase,
+    pub index: u32,
     time: u64,
-    pulses: u32,
-    ones: u32,
-    zeros: u32,
+    pub pulses: u32,
+    pub ones: u32,
+    pub zeros: u32,
 }
 
-struct Sent {
-    host: Host,
-    fall: u64,
-    rise: u64,
+pub struct Sent {
+    pub host: Host,
+    pub fall: u64,
+    pub rise: u64,
 }
 
 const LONGEST_LEG: u64 = 90_052_000_000;
 
-fn states() -> [u8; 255] {
+pub fn states() -> [u8; 255] {
     let mut table = [0; 255];
     let mut state = 0x50u8;
     for entry in table.iter_mut() {
@@ -72,8 +72,8 @@ fn states() -> [u8; 255] {
     table
 }
 
-struct Planner {
-    states: [u8; 255],
+pub struct Planner {
+    pub states: [u8; 255],
 }
 
 impl Planner {
@@ -95,7 +95,7 @@ fn bad_length(length: usize) -> bool {
 }
 
 impl Host {
-    fn start(t: u32, h: u32, p: u32, command: u32, image: &[u8]) -> Result<Host, u8> {
+    pub fn start(t: u32, h: u32, p: u32, command: u32, image: &[u8]) -> Result<Host, u8> {
         if !(4_300..=26_000).contains(&t) {
             return Err(1);
         }
@@ -183,7 +183,7 @@ impl Host {
             || self.time > self.pulses as u64 * LONGEST_LEG
     }
 
-    fn step(mut self, planner: &Planner, image: &[u8], seen: Seen) -> Result<Sent, u8> {
+    pub fn step(mut self, planner: &Planner, image: &[u8], seen: Seen) -> Result<Sent, u8> {
         if self.outside() {
             return Err(13);
         }
