@@ -1,6 +1,9 @@
 // The chip model written plainly in Rust, with the refusals and the answers of the crate `chip`, and the program of crates/fullest over
 // it: what the proved chip's instructions are compared with. bench/planned.rs has it as a module.
 
+#[path = "image.rs"]
+mod image;
+
 #[derive(Clone, Copy)]
 pub enum Seen {
     Silence,
@@ -373,15 +376,7 @@ fn early_bit(n: u32) -> bool {
 }
 
 fn main() {
-    let mut image = [0u8; 32_760];
-    for i in 16..image.len() {
-        image[i] = (i % 251) as u8;
-    }
-    image[6] = 16;
-    image[8] = (image.len() % 256) as u8;
-    image[9] = (image.len() / 256) as u8;
-    image[11] = 128;
-    image[0] = 20u8.wrapping_sub(sum(&image));
+    let image = image::longest();
     let mut ram = [0u8; MEMORY];
     let mut eeprom = [0u8; MEMORY];
     let mut chip = match Chip::start(&ram, &eeprom, Fault::None) {

@@ -1,6 +1,9 @@
 // The host planner written plainly in Rust, with the refusals and the answers of the crate `host`, and the program of crates/longest
 // over it: what the proved planner's instructions are compared with. bench/planned.rs has it as a module.
 
+#[path = "image.rs"]
+mod image;
+
 #[derive(Clone, Copy)]
 pub enum Seen {
     Silence,
@@ -288,15 +291,7 @@ fn reply(planner: &Planner, host: &Host) -> Seen {
 
 fn main() {
     let planner = Planner { states: states() };
-    let mut image = [0u8; 32_760];
-    for i in 16..image.len() {
-        image[i] = (i % 251) as u8;
-    }
-    image[6] = 16;
-    image[8] = (image.len() % 256) as u8;
-    image[9] = (image.len() / 256) as u8;
-    image[11] = 128;
-    image[0] = 20u8.wrapping_sub(sum(&image));
+    let image = image::longest();
     let mut host = match Host::start(8_600, 8_600, 700_000, 1, &image) {
         Ok(host) => host,
         Err(n) => {

@@ -1,24 +1,21 @@
 -- Every run ends: each pulse is counted, and no session has more than the budget.
 -- Assumes nothing.
-use mathlib.Core.Bool.{Bool, true, false, not}
-use mathlib.Core.List.{List, _++_}
+use mathlib.Core.Bool.{Bool, true, false}
+use mathlib.Core.List.{List}
 use mathlib.Core.Path.{_≡_, refl, sym, _∙_, subst}
 use Prim.Native.Nat.{ℕ, zero, suc, _+_, _≤_, _<_}
 use native.Mathlib.Numerals.{add-one}
 use native.Mathlib.Omega.{arith}
-use lib.Dec.{eqb}
-use lib.ListN.{length}
-use Rattle.terms.specs.Choice.{when}
-use Rattle.terms.proofs.Tests.{when-false, when-elim, differ-false}
+use Rattle.terms.proofs.Tests.{differ-false}
 use Rattle.terms.proofs.Refusals.{taken-exactly}
 use Rattle.terms.specs.Refusals.{taken}
-use Rattle.load.specs.Load.{loadRows, loadOf}
-use Rattle.load.specs.Settings.{settingsRows}
 use Rattle.session.specs.Step.{otherImage}
 use Rattle.place.proofs.Bounds.{phase-most}
 use Rattle.host.specs.Step.{hostStart}
 use Rattle.host.specs.declared.Host.{Host}
 use Rattle.host.proofs.Kept.{start-keeps}
+use Rattle.host.proofs.Starts.{start-gives}
+use Rattle.session.proofs.Starts.{lent-again}
 use Rattle.chip.specs.Step.{startRows, chipStart}
 use Rattle.chip.proofs.Reached.{started}
 use Rattle.chip.specs.declared.Chip.{Chip}
@@ -28,13 +25,6 @@ use Rattle.joined.specs.Joined.{State, Measuring, pulsed, hostEnded, beg
 use Rattle.joined.specs.Run.{budget}
 use Rattle.joined.proofs.Sound.{Sound, pulsed-sound, pulsed-count, unrefused-here}
 use Rattle.joined.proofs.Turns.{played-stops, played-goes}
-
--- The image of a start is of its own length.
-own-length : (command : ℕ) (image : List ℕ) → otherImage (loadOf command image) image ≡ false
-unfolding otherImage when
-own-length command image =
-    when-elim (λ (b : Bool). b ≡ false) (eqb command 0) false (not (eqb (length image) (loadOf command image .length .0))) (λ e. refl)
-    (λ e. differ-false _ _ .1 (sym (when-false 0 (length image) e)))
 
 module _ (measured : Measuring) (image : List ℕ) where
   -- A host that has not ended has sent fewer pulses than the budget.
@@ -99,13 +89,13 @@ module _ (measured : Measuring) (image : List ℕ) where
   module _ (t h p command : ℕ) (host : Host) (begins : hostStart t h p command image ≡ taken host) (ram eeprom : List ℕ) (fault : Fault)
       (chip : Chip) (starts : chipStart ram eeprom fault ≡ taken chip) where
     pub start-sound : Sound image (begun host chip ram eeprom)
-    unfolding hostStart chipStart
+    unfolding chipStart
     start-sound =
-        let opened = taken-exactly _ host (settingsRows t h p ++ loadRows command image) .0 begins in
+        let opened = start-gives t h p command image host begins in
         let clear = taken-exactly _ chip (startRows ram eeprom fault) .0 starts .0 in
         record {
           kept = start-keeps t h p command image host begins;
-          lent = subst (λ (x : Host). otherImage (x .session .load) image ≡ false) (sym (opened .1)) (own-length command image);
+          lent = subst (λ (x : Host). otherImage (x .session .load) image ≡ false) (sym (opened .0)) (lent-again command image image (λ some. refl));
           reached = started ram eeprom fault chip starts;
           ram-size = differ-false _ _ .0 (clear .0);
           eeprom-size = differ-false _ _ .0 (clear .1 .0);

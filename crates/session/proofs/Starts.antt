@@ -1,13 +1,18 @@
--- A session starts exactly as its load is taken.
+-- A session starts exactly as its load is taken, and a step that is lent an image of the start's length is not refused for it.
 -- Assumes nothing.
+use mathlib.Core.Bool.{Bool, false, not}
 use mathlib.Core.List.{List}
-use mathlib.Core.Path.{_≡_, sym, ap, _∙_}
+use mathlib.Core.Path.{_≡_, refl, sym, ap, _∙_}
 use Prim.Native.Nat.{ℕ}
+use lib.Dec.{eqb}
+use lib.ListN.{length}
+use borrow.Author.Tests.{eqb-false, ne-eqb}
 use Rattle.terms.specs.Refusals.{refused, taken}
 use Rattle.terms.proofs.Refusals.{refused-alike, taken-alike}
+use Rattle.terms.proofs.Tests.{when-false, when-elim, differ-false}
 use Rattle.load.specs.Load.{loadRows, loadOf, accepted}
 use Rattle.load.specs.declared.Load.{Load}
-use Rattle.session.specs.Step.{fresh, sessionStart}
+use Rattle.session.specs.Step.{fresh, sessionStart, otherImage}
 use Rattle.session.specs.declared.Session.{Session}
 
 module _ (command : ℕ) (image : List ℕ) where
@@ -25,3 +30,12 @@ module _ (command : ℕ) (image : List ℕ) where
       → (accepted command image ≡ taken (loadOf command image)) × (s ≡ fresh (loadOf command image))
   unfolding accepted sessionStart
   start-load s e = taken-alike (loadRows command image) (fresh (loadOf command image)) (loadOf command image) s e
+
+  pub length-kept : (command ≡ 0 → ⊥) → loadOf command image .length .0 ≡ length image
+  length-kept some = when-false 0 (length image) (ne-eqb command 0 some)
+
+  pub lent-again : (other : List ℕ) → ((command ≡ 0 → ⊥) → length other ≡ length image) → otherImage (loadOf command image) other ≡ false
+  unfolding otherImage
+  lent-again other same =
+      when-elim (λ (b : Bool). b ≡ false) (eqb command 0) false (not (eqb (length other) (loadOf command image .length .0))) (λ e. refl)
+      (λ e. let some = eqb-false command 0 e in differ-false _ _ .1 (same some ∙ sym (length-kept some)))

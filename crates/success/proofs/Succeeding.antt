@@ -1,7 +1,7 @@
 -- Demand 3: the calibration, then the conversation, in a run whose clock is right.
 -- Assumes nothing.
 use mathlib.Core.Bool.{Bool, true, false}
-use mathlib.Core.List.{List, _++_}
+use mathlib.Core.List.{List}
 use mathlib.Core.Path.{_≡_, refl, sym, ap, _∙_, subst}
 use Prim.Native.Nat.{ℕ, _+_, _*_, _<_}
 use native.Mathlib.Nat.{zero-add, zero-div}
@@ -9,17 +9,15 @@ use native.Mathlib.Omega.{arith}
 use lib.Dec.{eqb}
 use lib.ListN.{length}
 use Rattle.terms.specs.Choice.{when}
-use Rattle.terms.proofs.Refusals.{clear-both, clear-taken, taken-exactly}
-use Rattle.load.specs.Load.{loadRows, loadOf, accepted}
-use Rattle.load.specs.Settings.{settingsRows, checked}
+use Rattle.terms.proofs.Refusals.{taken-exactly}
+use Rattle.load.specs.Load.{loadOf}
 use Rattle.load.specs.declared.Load.{Load}
 use Rattle.load.specs.declared.Settings.{Settings}
-use Rattle.load.proofs.Exactly.{settings-taken, load-taken}
 use Rattle.load.proofs.Facts.{Fit, Known}
 use Rattle.session.specs.Step as session
-use Rattle.host.specs.Step.{hostStart}
 use Rattle.host.specs.Step as hosts
 use Rattle.host.specs.declared.Host.{Host}
+use Rattle.host.proofs.Starts.{start-gives}
 use Rattle.memory.specs.declared.Fault.the-variants.{None}
 use Rattle.chip.specs.Step.{chipStart, startRows}
 use Rattle.chip.specs.Step as chips
@@ -63,14 +61,7 @@ module _ (t h p command : ℕ) (image : List ℕ) (host : Host) (ram eeprom : Li
 
   -- What both starts hand out.
   opened : (host ≡ hosts.fresh figures (session.fresh load)) × Fit t h p × Known command image
-  unfolding hostStart checked accepted
-  opened =
-      let known = taken-exactly _ host (settingsRows t h p ++ loadRows command image) .0 (a .host-starts) in
-      let rows = clear-both (loadRows command image) (settingsRows t h p) (known .0) in (
-        known .1,
-        settings-taken t h p figures .0 (clear-taken figures (settingsRows t h p) (rows .0)) .0,
-        load-taken command image load .0 (clear-taken load (loadRows command image) (rows .1)) .0,
-      )
+  opened = start-gives t h p command image host (a .host-starts)
 
   fresh-chip : chip ≡ chips.fresh None
   unfolding chipStart
