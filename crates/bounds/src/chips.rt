@@ -2,8 +2,8 @@
 use crate::print;
 use chip::Chip;
 use chip::Stepped;
+use eeprom::Fault;
 use listener::Listener;
-use memory::Fault;
 use phases::Phase;
 use units::Longs;
 use units::Loops;

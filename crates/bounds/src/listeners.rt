@@ -2,7 +2,7 @@
 use crate::chips;
 use crate::print::number;
 use crate::print::say;
-use memory::Fault;
+use eeprom::Fault;
 use phases::Acknowledgement;
 use phases::Ending;
 use phases::Phase;

@@ -13,8 +13,8 @@ use Rattle.lent.specs.Bytes.{wordAt, total}
 use Rattle.load.specs.Image.{badLength, otherLength, otherStart, badStack, otherSum}
 use Rattle.load.specs.Load.{loadOutside}
 use Rattle.load.specs.Settings.{outside, settingsOutside}
-use Rattle.memory.specs.Ram.{flagged, flaggedBelow}
-use Rattle.memory.proofs.Memories.{flags-of-0, flags-of-4}
+use Rattle.ram.specs.Ram.{flagged, flaggedBelow}
+use Rattle.ram.proofs.Stored.{flags-of-0, flags-of-4}
 use Rattle.place.specs.Follow.{onward, next}
 use Rattle.place.specs.Ranges.{placeOutside}
 use Rattle.sequence.specs.Sequence.{advanced, state, draw, draws}

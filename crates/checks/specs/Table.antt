@@ -12,7 +12,7 @@ use Rattle.host.specs.declared.Host.{Host}
 use Rattle.host.specs.declared.Sent.{Sent}
 use Rattle.lent.specs.Bytes.{wordAt, total}
 use Rattle.listener.specs.Reading.{thresholdOf, reads}
-use Rattle.memory.specs.Ram.{flagged}
+use Rattle.ram.specs.Ram.{flagged}
 use Rattle.sequence.specs.Sequence.{state, handshake, connection}
 use Rattle.units.specs.declared.Seen.the-variants.{Silence}
 use Rattle.checks.specs.Sample.{sample}

@@ -15,9 +15,9 @@ use Rattle.listener.specs.declared.Event.{Event}
 use Rattle.listener.specs.declared.Event.the-variants.{Nothing, Store, Finish, Program, Verify, Launch, Boot}
 use Rattle.chip.proofs.Listening.{fresh-within, step-within}
 use Rattle.chip.proofs.Within.{Within, listener-within}
-use Rattle.memory.specs.Eeprom.{faultOutside, after}
-use Rattle.memory.specs.declared.Fault.{Fault}
-use Rattle.memory.specs.declared.Fault.the-variants.{None, Accepts, Reads}
+use Rattle.eeprom.specs.Eeprom.{faultOutside, after}
+use Rattle.eeprom.specs.declared.Fault.{Fault}
+use Rattle.eeprom.specs.declared.Fault.the-variants.{None, Accepts, Reads}
 use Rattle.chip.specs.Step.{Reply, left, fresh, startRows, chipStart, chipOutside, stepRows, chipStep}
 use Rattle.chip.specs.Work.{done}
 use Rattle.chip.specs.declared.Chip.{Chip}

@@ -13,8 +13,8 @@ use Rattle.phases.specs.declared.Phase.the-variants.{First}
 use Rattle.listener.specs.Hears.{hears, settled}
 use Rattle.listener.specs.Ranges.{listenerOutside}
 use Rattle.listener.specs.declared.Heard.{Heard}
-use Rattle.memory.specs.Eeprom.{faultOutside}
-use Rattle.memory.specs.declared.Fault.{Fault}
+use Rattle.eeprom.specs.Eeprom.{faultOutside}
+use Rattle.eeprom.specs.declared.Fault.{Fault}
 use Rattle.chip.specs.Work.{Worked, done}
 use Rattle.chip.specs.declared.Chip.{Chip}
 use Rattle.chip.specs.declared.Started.{Started}

@@ -5,10 +5,10 @@ use mathlib.Core.List.{List}
 use Prim.Native.Nat.{ℕ, _+_, _*_}
 use Rattle.listener.specs.declared.Event.{Event}
 use Rattle.listener.specs.declared.Event.the-variants.{Nothing, Store, Finish, Program, Verify, Launch, Boot}
-use Rattle.memory.specs.Eeprom.{programmed, programming, verifies, booted, boots}
-use Rattle.memory.specs.Ram.{stored, finished, sumsToZero, launches}
-use Rattle.memory.specs.declared.Done.{Done}
-use Rattle.memory.specs.declared.Fault.{Fault}
+use Rattle.eeprom.specs.Eeprom.{programmed, programming, verifies, booted, boots}
+use Rattle.ram.specs.Ram.{stored, finished, sumsToZero, launches}
+use Rattle.eeprom.specs.declared.Done.{Done}
+use Rattle.eeprom.specs.declared.Fault.{Fault}
 
 -- What work leaves: how it went, and both memories.
 pub record Worked : Type 0 where

@@ -5,10 +5,10 @@ ghost use Rattle.chip.specs.Step.{after, chipOutside, chipStart, chipSte
 
 mod work;
 
+use eeprom::Done;
+use eeprom::Fault;
 use listener::Heard;
 use listener::Listener;
-use memory::Done;
-use memory::Fault;
 use units::Bytes;
 use units::Loops;
 use units::Seen;

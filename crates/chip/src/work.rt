@@ -1,11 +1,11 @@
 // The work that a pulse calls for, on both memories.
 ghost use mathlib.Core.Path.{_≡_};
 ghost use mathlib.Core.Bool.{true};
-ghost use Rattle.memory.specs.Ram.{sumsToZero};
+ghost use Rattle.ram.specs.Ram.{sumsToZero};
 ghost use Rattle.chip.specs.Work.{done, loaded, went, withLong, worked};
+use eeprom::Done;
+use eeprom::Fault;
 use listener::Event;
-use memory::Done;
-use memory::Fault;
 use units::Bytes;
 use units::Longs;
 
@@ -26,7 +26,7 @@ pub(crate) fn done(fault: Fault, event: Event, ram: &mut [u8], eeprom: &mut [u8]
             fault,
         },
         Event::Launch => Done {
-            good: memory::is_launchable(ram),
+            good: ram::is_launchable(ram),
             fault,
         },
         Event::Boot => Done {
@@ -41,7 +41,7 @@ fn stored(fault: Fault, ram: &mut [u8], k: Longs, long: u32) -> Done
     ensures { λ r. ⌜ r ≡ went true fault ⌝ }
     ensures { λ _. ⌜ now (ram .exit) ≡ withLong (k .0) long (now (ram .entry)) ⌝ }
 {
-    memory::store(ram, k.to_bytes(), long);
+    ram::store(ram, k.to_bytes(), long);
     Done { good: true, fault }
 }
 
@@ -51,9 +51,9 @@ fn finished(fault: Fault, ram: &mut [u8], k: Longs, long: u32) -> Done
     ensures { λ _. ⌜ now (ram .exit) ≡ loaded (k .0) long (now (ram .entry)) ⌝ }
 {
     let at = k.to_bytes();
-    memory::store(ram, at, long);
+    ram::store(ram, at, long);
     Done {
-        good: memory::finish(ram, Bytes(at.0 + LONG)),
+        good: ram::finish(ram, Bytes(at.0 + LONG)),
         fault,
     }
 }

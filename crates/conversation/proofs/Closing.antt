@@ -16,10 +16,10 @@ use Rattle.place.specs.declared.Acknowledgement as host
 use Rattle.place.specs.declared.Acknowledgement.the-variants.{Ram, Programming, Verification}
 use Rattle.place.specs.declared.Phase as at
 use Rattle.place.specs.declared.Phase.the-variants.{Wait}
-use Rattle.memory.specs.Eeprom.{whole, accepted, programmed, verifies}
-use Rattle.memory.specs.declared.Fault.the-variants.{None}
-use Rattle.memory.proofs.Memories.{same-refl}
-use Rattle.memory.proofs.Turns.{copied-whole}
+use Rattle.eeprom.specs.Eeprom.{whole, accepted, programmed, verifies}
+use Rattle.eeprom.specs.declared.Fault.the-variants.{None}
+use Rattle.eeprom.proofs.Memories.{same-refl}
+use Rattle.eeprom.proofs.Turns.{copied-whole}
 use Rattle.phases.specs.declared.Acknowledgement.{Acknowledgement}
 use Rattle.phases.specs.declared.Phase.the-variants.{Rest, Align}
 use Rattle.phases.specs.declared.Reply.the-variants.{Acknowledging}

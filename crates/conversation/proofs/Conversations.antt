@@ -21,7 +21,7 @@ use Rattle.place.specs.Phases.{places}
 use Rattle.place.specs.declared.Acknowledgement.the-variants.{Ram, Programming, Verification}
 use Rattle.place.specs.declared.Ending.the-variants.{Done}
 use Rattle.place.specs.declared.Phase.the-variants as at
-use Rattle.memory.specs.declared.Fault.the-variants.{None}
+use Rattle.eeprom.specs.declared.Fault.the-variants.{None}
 use Rattle.phases.specs.declared.Acknowledgement.the-variants.{Stored, Programmed, Verified}
 use Rattle.phases.specs.declared.Ending.the-variants.{Launched, Shut}
 use Rattle.phases.specs.declared.Phase.{Phase}

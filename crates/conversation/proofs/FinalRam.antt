@@ -13,7 +13,7 @@ use borrow.Author.Tests.{lt-ltb, eq-eqb}
 use Rattle.terms.proofs.Tests.{when-true}
 use Rattle.lent.specs.Bytes.{wordAt, total}
 use Rattle.load.proofs.Facts.{Good}
-use Rattle.memory.specs.Ram.{zeroed, flagAt, flagStored, flaggedBelow, flagged, finished, sumsToZero, launches}
+use Rattle.ram.specs.Ram.{zeroed, flagAt, flagStored, flaggedBelow, flagged, finished, sumsToZero, launches}
 use Rattle.chip.specs.Work.{loaded}
 use Rattle.conversation.specs.Final.{AllBytes, flag, finalRam}
 use Rattle.conversation.proofs.Loading.{stored-at, overlaid, long-stored}

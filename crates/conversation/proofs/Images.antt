@@ -15,8 +15,8 @@ use Rattle.place.specs.Phases.{places}
 use Rattle.place.specs.declared.Acknowledgement.the-variants.{Ram}
 use Rattle.place.specs.declared.Phase.the-variants as at
 use Rattle.place.specs.declared.Place.{Place}
-use Rattle.memory.specs.Ram.{sumsToZero}
-use Rattle.memory.specs.declared.Fault.the-variants.{None}
+use Rattle.ram.specs.Ram.{sumsToZero}
+use Rattle.eeprom.specs.declared.Fault.the-variants.{None}
 use Rattle.phases.specs.declared.Acknowledgement.the-variants.{Stored}
 use Rattle.phases.specs.declared.Phase.{Phase}
 use Rattle.phases.specs.declared.Phase.the-variants.{Long, Align}

@@ -8,7 +8,7 @@ use lib.ListN.{length, getD, take, drop, length-append, length-drop, take-append
 use lib.Seq.{take-at, drop-at, take-add, drop-drop, length-take-le}
 use borrow.Author.Tests.{le-leb}
 use Rattle.terms.proofs.Tests.{when-true}
-use Rattle.memory.specs.Ram.{longBytes, stored}
+use Rattle.ram.specs.Ram.{longBytes, stored}
 use Rattle.chip.specs.Work.{withLong}
 use Rattle.conversation.specs.Final.{AllBytes}
 use Rattle.conversation.proofs.Longs.{longOf, bytes-back, from-there}

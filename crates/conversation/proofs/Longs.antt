@@ -12,7 +12,7 @@ use lib.Pow.{areBytes, shr-shr, field, mod-mod-pow}
 use lib.Seq.{getD-drop}
 use Rattle.sequence.specs.Sequence.{bit}
 use Rattle.place.specs.Bits.{valueBit, imageBit}
-use Rattle.memory.specs.Ram.{longBytes}
+use Rattle.ram.specs.Ram.{longBytes}
 use Rattle.conversation.specs.Final.{AllBytes}
 
 -- A list that is written out is tested.

@@ -15,7 +15,7 @@ use Rattle.place.specs.Phases as host
 use Rattle.place.specs.Phases.{places}
 use Rattle.place.specs.declared.Phase.{Phase}
 use Rattle.place.specs.declared.Place.{Place}
-use Rattle.memory.specs.declared.Fault.the-variants.{None}
+use Rattle.eeprom.specs.declared.Fault.the-variants.{None}
 use Rattle.phases.specs.declared.Phase as chip
 use Rattle.listener.specs.Hears.{settled}
 use Rattle.listener.specs.declared.Event.{Event}

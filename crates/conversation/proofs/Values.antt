@@ -20,7 +20,7 @@ use Rattle.place.specs.Phases as host
 use Rattle.place.specs.Phases.{places}
 use Rattle.place.specs.declared.Phase as host-phase
 use Rattle.place.specs.declared.Place.{Place}
-use Rattle.memory.specs.declared.Fault.the-variants.{None}
+use Rattle.eeprom.specs.declared.Fault.the-variants.{None}
 use Rattle.phases.specs.declared.Phase.{Phase}
 use Rattle.listener.specs.Heard.{inPhase, quiet, heard}
 use Rattle.listener.specs.Reading.{grown}

@@ -16,7 +16,7 @@ use Rattle.place.specs.Phases as host
 use Rattle.place.specs.declared.Ending.the-variants.{Done}
 use Rattle.place.specs.declared.Phase.the-variants as at
 use Rattle.place.specs.declared.Place.{Place}
-use Rattle.memory.specs.declared.Fault.the-variants.{None}
+use Rattle.eeprom.specs.declared.Fault.the-variants.{None}
 use Rattle.phases.specs.Phases as chip
 use Rattle.phases.specs.declared.Phase.the-variants as to
 use Rattle.listener.specs.Heard.{heard}

@@ -4,7 +4,7 @@ use chip::Chip;
 use chip::Played;
 use chip::Started;
 use chip::Stepped;
-use memory::Fault;
+use eeprom::Fault;
 use phases::Ending;
 use phases::Phase;
 use units::Loops;

@@ -13,7 +13,7 @@ use Rattle.terms.specs.Refusals.{taken}
 use Rattle.terms.proofs.Refusals.{taken-exactly}
 use Rattle.phases.specs.declared.Ending.the-variants.{Launched}
 use Rattle.phases.specs.declared.Phase.the-variants.{Ended}
-use Rattle.memory.specs.declared.Fault.{Fault}
+use Rattle.eeprom.specs.declared.Fault.{Fault}
 use Rattle.chip.specs.Step.{fresh, startRows, chipStart}
 use Rattle.chip.specs.declared.Chip.{Chip}
 use Rattle.chip.proofs.Steps.{step-taken}

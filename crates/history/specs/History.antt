@@ -4,7 +4,7 @@ use mathlib.Core.List.{List}
 use mathlib.Core.Path.{_≡_}
 use Prim.Native.Nat.{ℕ, _+_}
 use Rattle.terms.specs.Refusals.{taken}
-use Rattle.memory.specs.declared.Fault.{Fault}
+use Rattle.eeprom.specs.declared.Fault.{Fault}
 use Rattle.chip.specs.Step.{Reply, chipStart, chipStep, left}
 use Rattle.chip.specs.declared.Chip.{Chip}
 

@@ -19,7 +19,7 @@ use Rattle.session.proofs.Starts.{lent-again}
 use Rattle.chip.specs.Step.{startRows, chipStart}
 use Rattle.chip.proofs.Reached.{started}
 use Rattle.chip.specs.declared.Chip.{Chip}
-use Rattle.memory.specs.declared.Fault.{Fault}
+use Rattle.eeprom.specs.declared.Fault.{Fault}
 use Rattle.joined.specs.Ends.{after, Unrefused, Ends}
 use Rattle.joined.specs.Joined.{State, Measuring, pulsed, hostEnded, begun}
 use Rattle.joined.specs.Run.{budget}

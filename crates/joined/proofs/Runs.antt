@@ -14,7 +14,7 @@ use Rattle.chip.specs.Step.{chipStart, toldStarted}
 use Rattle.chip.specs.declared.Chip.{Chip}
 use Rattle.chip.specs.declared.Started.{Started}
 use Rattle.chip.specs.declared.Started.the-variants as starts
-use Rattle.memory.specs.declared.Fault.{Fault}
+use Rattle.eeprom.specs.declared.Fault.{Fault}
 use Rattle.joined.specs.Joined.{roundedDown, hostEnded, played, begun}
 use Rattle.joined.specs.Run.{budget, outcome, left, finished, fromChip, fromHost, runOf, state}
 use Rattle.joined.specs.declared.Joined.{Joined}

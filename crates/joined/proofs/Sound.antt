@@ -19,8 +19,9 @@ use Rattle.phases.specs.Phases as chip
 use Rattle.listener.specs.Hears.{hears}
 use Rattle.listener.specs.declared.Event.{Event}
 use Rattle.listener.specs.declared.Event.the-variants.{Nothing, Store, Finish, Program, Verify, Launch, Boot}
-use Rattle.memory.specs.declared.Fault.{Fault}
-use Rattle.memory.proofs.Memories.{stored-length, zeroed-length, flagged-length, programmed-length, booted-length}
+use Rattle.eeprom.specs.declared.Fault.{Fault}
+use Rattle.ram.proofs.Stored.{stored-length, zeroed-length, flagged-length}
+use Rattle.eeprom.proofs.Memories.{programmed-length, booted-length}
 use Rattle.chip.specs.Work.{done}
 use Rattle.chip.specs.Step.{Left, chipStep, pulse}
 use Rattle.chip.proofs.Reached.{Reached, stepped, chip-kept, reached-kept}

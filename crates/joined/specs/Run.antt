@@ -11,7 +11,7 @@ use Rattle.host.specs.declared.Host.{Host}
 use Rattle.host.specs.declared.Sent.{Sent}
 use Rattle.phases.specs.declared.Phase as phases
 use Rattle.phases.specs.declared.Phase.the-variants as at
-use Rattle.memory.specs.declared.Fault.{Fault}
+use Rattle.eeprom.specs.declared.Fault.{Fault}
 use Rattle.chip.specs.Step.{chipStart}
 use Rattle.chip.specs.declared.Chip.{Chip}
 use Rattle.joined.specs.Joined.{State, Measuring, roundedDown, played, begun}

@@ -9,9 +9,9 @@ mod pulses;
 
 use chip::Chip;
 use chip::Started;
+use eeprom::Fault;
 use host::Begun;
 use host::Host;
-use memory::Fault;
 use phases::Phase;
 use place::Ending;
 use units::Seen;

@@ -2,10 +2,10 @@
 // or the number of a refusal.
 ghost use mathlib.Core.Path.{_≡_};
 ghost use Rattle.joined.specs.declared.ChipEnd.the-variants.{Listening};
+use eeprom::Fault;
 use joined::ChipEnd;
 use joined::Ran;
 use joined::Report;
-use memory::Fault;
 use phases::Ending;
 
 // The bench: t and h in ns, the tick p and the chip's loop in ps.

@@ -17,7 +17,7 @@ use Rattle.load.specs.Settings.{outside}
 use Rattle.place.specs.Phases.{ended}
 use Rattle.host.specs.Step.{hostStart}
 use Rattle.host.specs.declared.Host.{Host}
-use Rattle.memory.specs.declared.Fault.the-variants.{None}
+use Rattle.eeprom.specs.declared.Fault.the-variants.{None}
 use Rattle.chip.specs.Step.{chipStart}
 use Rattle.chip.specs.declared.Chip.{Chip}
 use Rattle.checks.specs.Sample.{sample}

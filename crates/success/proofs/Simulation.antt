@@ -25,8 +25,8 @@ use Rattle.listener.specs.Hears.{hears, settled}
 use Rattle.listener.specs.Late.{late}
 use Rattle.listener.specs.Reading.{reads}
 use Rattle.listener.specs.declared.Heard.{Heard}
-use Rattle.memory.specs.declared.Fault.{Fault}
-use Rattle.memory.specs.declared.Fault.the-variants.{None}
+use Rattle.eeprom.specs.declared.Fault.{Fault}
+use Rattle.eeprom.specs.declared.Fault.the-variants.{None}
 use Rattle.chip.specs.Work.{done}
 use Rattle.chip.specs.Step.{pulse}
 use Rattle.conversation.specs.Conversation.{Talk, bitOf, placeAfter, heardOf, passed, talked, Open, Reach, stay, step}

@@ -18,7 +18,7 @@ use Rattle.session.specs.Step as session
 use Rattle.host.specs.Step as hosts
 use Rattle.host.specs.declared.Host.{Host}
 use Rattle.host.proofs.Starts.{start-gives}
-use Rattle.memory.specs.declared.Fault.the-variants.{None}
+use Rattle.eeprom.specs.declared.Fault.the-variants.{None}
 use Rattle.chip.specs.Step.{chipStart, startRows}
 use Rattle.chip.specs.Step as chips
 use Rattle.chip.specs.declared.Chip.{Chip}

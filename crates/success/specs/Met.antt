@@ -11,7 +11,7 @@ use Rattle.place.specs.declared.Ending.the-variants.{Done}
 use Rattle.place.specs.declared.Phase.the-variants as place
 use Rattle.host.specs.Step as host
 use Rattle.host.specs.declared.Host.{Host}
-use Rattle.memory.specs.declared.Fault.the-variants.{None}
+use Rattle.eeprom.specs.declared.Fault.the-variants.{None}
 use Rattle.chip.specs.Step as chip
 use Rattle.chip.specs.declared.Chip.{Chip}
 use Rattle.checks.specs.Sample.{sample}

@@ -13,7 +13,7 @@ use Rattle.place.specs.declared.Ending.the-variants as ending
 use Rattle.place.specs.declared.Phase.the-variants as place
 use Rattle.host.specs.Step.{hostStart}
 use Rattle.host.specs.declared.Host.{Host}
-use Rattle.memory.specs.declared.Fault.the-variants.{None}
+use Rattle.eeprom.specs.declared.Fault.the-variants.{None}
 use Rattle.phases.specs.Phases.{ended}
 use Rattle.phases.specs.declared.Phase.the-variants as chip
 use Rattle.chip.specs.Step.{chipStart}

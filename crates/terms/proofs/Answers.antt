@@ -25,3 +25,7 @@ OneOutcome {n} ps r Post left =
 module _ {A B : Type 0} (told : A → B) (back : B → A) (back-told : (a : A) → back (told a) ≡ a) where
   pub one-told : (r s : A) (b : B) → told r ≡ b → told s ≡ b → r ≡ s
   one-told r s b p q = sym (back-told r) ∙ ap back (p ∙ sym q) ∙ back-told s
+
+-- Two clauses of a promise, each of which fixes its part, fix both.
+pub both-fixed : {A B : Type 0} {a a′ x : A} {b b′ y : B} → (b ≡ y) × (a ≡ x) → (b′ ≡ y) × (a′ ≡ x) → _≡_ {A = A × B} (a, b) (a′, b′)
+both-fixed p q i = ((p .1 ∙ sym (q .1)) i, (p .0 ∙ sym (q .0)) i)

@@ -5,7 +5,7 @@ use crate::sample::S;
 use crate::stepped;
 use crate::stepped::Change;
 use crate::stepped::Pulse;
-use memory::Fault;
+use eeprom::Fault;
 use units::Loops;
 use units::Seen;
 

@@ -11,7 +11,7 @@ use by_hand::answered;
 use by_hand::pulse;
 use by_hand::sent;
 use by_hand::time_out;
-use memory::Fault;
+use eeprom::Fault;
 use print::say;
 use runs::byte;
 use runs::length;

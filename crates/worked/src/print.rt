@@ -1,8 +1,8 @@
 // The parts of a line.
+use eeprom::Fault;
 use joined::ChipEnd;
 use joined::Ran;
 use joined::Report;
-use memory::Fault;
 use phases::Ending;
 use units::Seen;
 

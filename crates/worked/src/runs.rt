@@ -2,7 +2,7 @@
 use crate::print;
 use crate::sample;
 use crate::sample::S;
-use memory::Fault;
+use eeprom::Fault;
 
 const T: u32 = 8_600;
 

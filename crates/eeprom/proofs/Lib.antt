@@ -1,0 +1,3 @@
+pub mod Memories
+pub mod Turns
+pub mod Unique

@@ -1,4 +1,0 @@
-pub mod Memories
-pub mod Pages
-pub mod Turns
-pub mod Unique

@@ -1,3 +1,0 @@
-pub mod Eeprom
-pub mod Page
-pub mod Ram

@@ -1,0 +1,3 @@
+pub mod Stored
+pub mod Turns
+pub mod Unique
