@@ -15,7 +15,7 @@ use Rattle.load.specs.Load.{loadOutside}
 use Rattle.load.specs.Settings.{outside, settingsOutside}
 use Rattle.ram.specs.Ram.{flagged, flaggedBelow}
 use Rattle.ram.proofs.Stored.{flags-of-0, flags-of-4}
-use Rattle.place.specs.Follow.{onward, next}
+use Rattle.follow.specs.Follow.{onward, next}
 use Rattle.place.specs.Ranges.{placeOutside}
 use Rattle.sequence.specs.Sequence.{advanced, state, draw, draws}
 use Rattle.session.specs.Ranges.{sessionOutside}

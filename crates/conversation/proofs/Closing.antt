@@ -11,7 +11,7 @@ use Rattle.terms.specs.Choice.{when, both}
 use Rattle.terms.proofs.Tests.{when-true, when-false, both-true}
 use Rattle.units.specs.declared.Seen.the-variants.{Silence, Zero}
 use Rattle.load.specs.declared.Load.{Load}
-use Rattle.place.specs.Follow.{opened, onward, afterGood, afterWaitPair, next}
+use Rattle.follow.specs.Follow.{opened, onward, afterGood, afterWaitPair, next}
 use Rattle.place.specs.declared.Acknowledgement as host
 use Rattle.place.specs.declared.Acknowledgement.the-variants.{Ram, Programming, Verification}
 use Rattle.place.specs.declared.Phase as at

@@ -16,7 +16,7 @@ use Rattle.units.specs.declared.Seen.the-variants.{Silence}
 use Rattle.load.specs.Load.{loadOf}
 use Rattle.load.specs.declared.Load.{Load}
 use Rattle.load.proofs.Facts.{Good, Known}
-use Rattle.place.specs.Follow.{opened, afterRam}
+use Rattle.follow.specs.Follow.{opened, afterRam}
 use Rattle.place.specs.Phases.{places}
 use Rattle.place.specs.declared.Acknowledgement.the-variants.{Ram, Programming, Verification}
 use Rattle.place.specs.declared.Ending.the-variants.{Done}

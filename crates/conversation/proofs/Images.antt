@@ -10,7 +10,7 @@ use Rattle.units.specs.declared.Longs.{Longs}
 use Rattle.units.specs.declared.Seen.the-variants.{Silence}
 use Rattle.load.specs.declared.Load.{Load}
 use Rattle.load.proofs.Facts.{Good}
-use Rattle.place.specs.Follow.{opened, onward}
+use Rattle.follow.specs.Follow.{opened, onward}
 use Rattle.place.specs.Phases.{places}
 use Rattle.place.specs.declared.Acknowledgement.the-variants.{Ram}
 use Rattle.place.specs.declared.Phase.the-variants as at

@@ -11,7 +11,7 @@ use lib.ListN.{getD, drop}
 use lib.Pow.{areBytes, shr-shr, field, mod-mod-pow}
 use lib.Seq.{getD-drop}
 use Rattle.sequence.specs.Sequence.{bit}
-use Rattle.place.specs.Bits.{valueBit, imageBit}
+use Rattle.bits.specs.Bits.{valueBit, imageBit}
 use Rattle.ram.specs.Ram.{longBytes}
 use Rattle.conversation.specs.Final.{AllBytes}
 

@@ -11,9 +11,9 @@ use Rattle.terms.proofs.Tests.{when-true}
 use Rattle.sequence.specs.Sequence.{draw}
 use Rattle.units.specs.declared.Seen.the-variants.{Silence}
 use Rattle.load.specs.declared.Load.{Load}
-use Rattle.place.specs.Bits.{pairBit}
-use Rattle.place.specs.Follow as host
-use Rattle.place.specs.Follow.{opened, onward, shows}
+use Rattle.bits.specs.Bits.{pairBit}
+use Rattle.follow.specs.Follow as host
+use Rattle.follow.specs.Follow.{opened, onward, shows}
 use Rattle.place.specs.declared.Phase.the-variants as at
 use Rattle.place.specs.declared.Place.{Place}
 use Rattle.phases.specs.declared.Phase.{Phase}

@@ -9,8 +9,8 @@ use Rattle.terms.specs.Choice.{when}
 use Rattle.terms.proofs.Tests.{when-true, when-false, when-elim}
 use Rattle.units.specs.declared.Seen.{Seen}
 use Rattle.load.specs.declared.Load.{Load}
-use Rattle.place.specs.Bits.{pairBit}
-use Rattle.place.specs.Follow.{opened, after, onward, afterPair, next}
+use Rattle.bits.specs.Bits.{pairBit}
+use Rattle.follow.specs.Follow.{opened, after, onward, afterPair, next}
 use Rattle.place.specs.Phases as host
 use Rattle.place.specs.Phases.{places}
 use Rattle.place.specs.declared.Phase.{Phase}

@@ -10,8 +10,8 @@ use Rattle.terms.proofs.Tests.{when-true, when-false}
 use Rattle.units.specs.Units.{longsIn}
 use Rattle.units.specs.declared.Seen.the-variants.{Silence}
 use Rattle.load.specs.declared.Load.{Load}
-use Rattle.place.specs.Bits.{valueBit}
-use Rattle.place.specs.Follow.{opened, afterCommand}
+use Rattle.bits.specs.Bits.{valueBit}
+use Rattle.follow.specs.Follow.{opened, afterCommand}
 use Rattle.place.specs.declared.Ending.the-variants.{Done}
 use Rattle.place.specs.declared.Phase.the-variants as at
 use Rattle.phases.specs.declared.Ending.the-variants.{Shut}

@@ -14,8 +14,8 @@ use Rattle.terms.specs.Choice.{when}
 use Rattle.terms.proofs.Tests.{when-true, when-false}
 use Rattle.units.specs.declared.Seen.the-variants.{Silence}
 use Rattle.load.specs.declared.Load.{Load}
-use Rattle.place.specs.Bits.{valueBit, sentBit}
-use Rattle.place.specs.Follow.{onward, afterPair}
+use Rattle.bits.specs.Bits.{valueBit, sentBit}
+use Rattle.follow.specs.Follow.{onward, afterPair}
 use Rattle.place.specs.Phases as host
 use Rattle.place.specs.Phases.{places}
 use Rattle.place.specs.declared.Phase as host-phase

@@ -10,8 +10,8 @@ use Rattle.units.specs.declared.Seen.{Seen}
 use Rattle.units.specs.declared.Seen.the-variants.{Silence}
 use Rattle.load.specs.Load.{loadOf}
 use Rattle.load.specs.declared.Load.{Load}
-use Rattle.place.specs.Bits.{sentBit}
-use Rattle.place.specs.Follow.{opened, next}
+use Rattle.bits.specs.Bits.{sentBit}
+use Rattle.follow.specs.Follow.{opened, next}
 use Rattle.place.specs.Phases as host
 use Rattle.place.specs.declared.Ending.the-variants.{Done}
 use Rattle.place.specs.declared.Phase.the-variants as at

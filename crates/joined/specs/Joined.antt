@@ -10,7 +10,7 @@ use Rattle.units.specs.Line.{silence, seen}
 use Rattle.units.specs.Units.{loopsIn}
 use Rattle.units.specs.declared.Seen.{Seen}
 use Rattle.units.specs.declared.Seen.the-variants.{Silence}
-use Rattle.place.specs.Bits.{pairBit}
+use Rattle.bits.specs.Bits.{pairBit}
 use Rattle.place.specs.Phases as place
 use Rattle.place.specs.declared.Phase.{Phase}
 use Rattle.place.specs.declared.Phase.the-variants.{Calibration, Handshake, Connection, Version, Command, Zeros, Size, Image, Wait, Ended}

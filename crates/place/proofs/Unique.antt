@@ -4,21 +4,20 @@ use mathlib.Core.Path.{sym, _∙_}
 use Rattle.terms.proofs.Answers.{OneAnswer}
 use Rattle.place.proofs.Ending.number.Kinds as number-kinds
 use Rattle.place.proofs.Ending.number.Reads as number
-use Rattle.place.proofs.Place.bit.Kinds as bit-kinds
-use Rattle.place.proofs.Place.bit.Reads as bit
-use Rattle.place.proofs.Place.ends_silent_pair.Kinds as ends-silent-pair-kinds
-use Rattle.place.proofs.Place.ends_silent_pair.Reads as ends-silent-pair
+use Rattle.place.proofs.Phase.places.Kinds as places-kinds
+use Rattle.place.proofs.Phase.places.Reads as places
 use Rattle.place.proofs.Place.has_ended.Kinds as has-ended-kinds
 use Rattle.place.proofs.Place.has_ended.Reads as has-ended
 use Rattle.place.proofs.Place.is_outside.Kinds as is-outside-kinds
 use Rattle.place.proofs.Place.is_outside.Reads as is-outside
-use Rattle.place.proofs.Place.next.Kinds as next-kinds
-use Rattle.place.proofs.Place.next.Reads as next
 use Rattle.place.proofs.Place.pulses_before.Kinds as pulses-before-kinds
 use Rattle.place.proofs.Place.pulses_before.Reads as pulses-before
 
 pub number-one : OneAnswer number-kinds.ps number-kinds.r number.Post
 number-one κs a r₁ r₂ e₁ e₂ p q = p ∙ sym q
+
+pub places-one : OneAnswer places-kinds.ps places-kinds.r places.Post
+places-one κs a r₁ r₂ e₁ e₂ p q = p ∙ sym q
 
 pub is-outside-one : OneAnswer is-outside-kinds.ps is-outside-kinds.r is-outside.Post
 is-outside-one κs a r₁ r₂ e₁ e₂ p q = p ∙ sym q
@@ -28,12 +27,3 @@ pulses-before-one κs a r₁ r₂ e₁ e₂ p q = p ∙ sym q
 
 pub has-ended-one : OneAnswer has-ended-kinds.ps has-ended-kinds.r has-ended.Post
 has-ended-one κs a r₁ r₂ e₁ e₂ p q = p ∙ sym q
-
-pub bit-one : OneAnswer bit-kinds.ps bit-kinds.r bit.Post
-bit-one κs a r₁ r₂ e₁ e₂ p q = p ∙ sym q
-
-pub next-one : OneAnswer next-kinds.ps next-kinds.r next.Post
-next-one κs a r₁ r₂ e₁ e₂ p q = p ∙ sym q
-
-pub ends-silent-pair-one : OneAnswer ends-silent-pair-kinds.ps ends-silent-pair-kinds.r ends-silent-pair.Post
-ends-silent-pair-one κs a r₁ r₂ e₁ e₂ p q = p ∙ sym q

@@ -1,18 +1,13 @@
-// Where a session stands, without time: its phases, the bit of the pulse at each place, what follows it, and the endings.
+// Where a session stands, without time: its phases, each with its pulses, and its endings.
 ghost use mathlib.Core.Path.{_≡_};
 ghost use Prim.Native.Nat.{_+_};
-ghost use Rattle.place.specs.Bits.{sentBit};
 ghost use Rattle.place.specs.Endings.{number};
-ghost use Rattle.place.specs.Follow.{endsSilentPair, next};
-ghost use Rattle.place.specs.Phases.{ended};
+ghost use Rattle.place.specs.Phases.{ended, places};
 ghost use Rattle.place.specs.Ranges.{before, placeOutside};
 
-mod bits;
-mod follow;
 mod phases;
 
 use load::Load;
-use units::Seen;
 
 // What the host waits for when it waits for an acknowledgement.
 pub enum Acknowledgement {
@@ -69,6 +64,15 @@ impl Ending {
     }
 }
 
+impl Phase {
+    // The pulses that a load's session sends in this phase; one place, where nothing is sent, for a session that has ended.
+    pub fn places(self, load: Load) -> u32
+        ensures { λ r. ⌜ r ≡ places load self ⌝ }
+    {
+        phases::places(load, self)
+    }
+}
+
 impl Place {
     // Whether the load's session has no such place.
     pub fn is_outside(self, load: Load) -> bool
@@ -105,58 +109,6 @@ impl Place {
             Phase::Image => false,
             Phase::Wait(_) => false,
             Phase::Ended(_) => true,
-        }
-    }
-
-    // The bit of the pulse at this place. A byte past the image's end counts as 0, and so does the bit of an ended session.
-    pub fn bit(self, load: Load, image: &[u8]) -> bool
-        ensures { λ r. ⌜ r ≡ sentBit load (now (image .entry)) (self .phase) (self .index) ⌝ }
-    {
-        let phase = self.phase;
-        let index = self.index;
-        match phase {
-            Phase::Calibration => bits::pair_bit(index),
-            Phase::Handshake => bits::handshake_bit(index),
-            Phase::Connection => bits::pair_bit(index),
-            Phase::Version(_) => bits::pair_bit(index),
-            Phase::Command => bits::value_bit(load.command, index),
-            Phase::Zeros => false,
-            Phase::Size => bits::size_bit(load.length, index),
-            Phase::Image => bits::image_bit(image, index),
-            Phase::Wait(_) => bits::pair_bit(index),
-            Phase::Ended(_) => false,
-        }
-    }
-
-    // The place after the pulse at this one. `seen` is what was seen around the pulse before it, and counts only where this is the
-    // second pulse of a pair.
-    pub fn next(self, load: Load, seen: Seen) -> Place
-        ensures { λ r. ⌜ r ≡ next load (self .phase) (self .index) seen ⌝ }
-    {
-        let phase = self.phase;
-        let index = self.index;
-        if bits::pair_bit(index) {
-            return follow::onward(load, phase, index);
-        }
-        follow::after_pair(load, phase, index, seen)
-    }
-
-    // Whether the pulse at this place ends a silent pair of a wait.
-    pub fn ends_silent_pair(self, seen: Seen) -> bool
-        ensures { λ r. ⌜ r ≡ endsSilentPair (self .phase) (self .index) seen ⌝ }
-    {
-        let phase = self.phase;
-        match phase {
-            Phase::Calibration => false,
-            Phase::Handshake => false,
-            Phase::Connection => false,
-            Phase::Version(_) => false,
-            Phase::Command => false,
-            Phase::Zeros => false,
-            Phase::Size => false,
-            Phase::Image => false,
-            Phase::Wait(_) => follow::ends_silent(self.index, seen),
-            Phase::Ended(_) => false,
         }
     }
 }

@@ -11,9 +11,9 @@ use Rattle.terms.proofs.Refusals.{taken-exactly}
 use Rattle.load.specs.Load.{loadOf}
 use Rattle.load.proofs.Exactly.{load-taken}
 use Rattle.load.proofs.Within.{load-within, start-within}
-use Rattle.place.specs.Bits.{sentBit}
+use Rattle.bits.specs.Bits.{sentBit}
 use Rattle.place.specs.declared.Phase.the-variants.{Calibration}
-use Rattle.place.proofs.Stands.{opened-stands, next-stands}
+use Rattle.follow.proofs.Stands.{opened-stands, next-stands}
 use Rattle.units.specs.declared.Seen.{Seen}
 use Rattle.session.specs.Step.{sessionStart, stepRows, pulseOf, sessionStep}
 use Rattle.session.specs.declared.Pulse.{Pulse}

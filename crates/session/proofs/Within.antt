@@ -10,7 +10,7 @@ use Rattle.terms.proofs.Tests.{either-false, less-false, differ-false}
 use Rattle.load.specs.Load.{loadOutside}
 use Rattle.place.specs.Ranges.{placeOutside}
 use Rattle.place.proofs.Bounds.{place-most}
-use Rattle.place.proofs.Stands.{Stands}
+use Rattle.follow.proofs.Stands.{Stands}
 use Rattle.session.specs.Ranges.{sessionOutside}
 use Rattle.session.specs.declared.Session.{Session}
 

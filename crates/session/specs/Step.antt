@@ -10,8 +10,8 @@ use Rattle.terms.specs.Refusals.{Row, Answer, refused, taken, _given-when_, fir
 use Rattle.load.specs.Load.{loadRows, loadOf}
 use Rattle.load.specs.declared.Load.{Load}
 use Rattle.units.specs.declared.Seen.{Seen}
-use Rattle.place.specs.Bits.{sentBit}
-use Rattle.place.specs.Follow.{opened, next, endsSilentPair}
+use Rattle.bits.specs.Bits.{sentBit}
+use Rattle.follow.specs.Follow.{opened, next, endsSilentPair}
 use Rattle.place.specs.Phases.{ended}
 use Rattle.session.specs.Ranges.{sessionOutside}
 use Rattle.place.specs.declared.Phase.{Phase}

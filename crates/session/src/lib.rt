@@ -91,9 +91,9 @@ fn pulse_of(session: Session, image: &[u8], seen: Seen) -> Pulse
 {
     let load = session.load;
     let place = session.place;
-    let bit = place.bit(load, image);
-    let next = place.next(load, seen);
-    let silent = place.ends_silent_pair(seen);
+    let bit = bits::bit(place, load, image);
+    let next = follow::next(place, load, seen);
+    let silent = follow::ends_silent_pair(place, seen);
     Pulse {
         bit,
         silent,

@@ -7,8 +7,8 @@ use Prim.Native.Nat.{ℕ, _+_}
 use Rattle.terms.specs.Choice.{when}
 use Rattle.load.specs.declared.Load.{Load}
 use Rattle.units.specs.declared.Seen.{Seen}
-use Rattle.place.specs.Bits.{sentBit}
-use Rattle.place.specs.Follow.{opened, next, endsSilentPair}
+use Rattle.bits.specs.Bits.{sentBit}
+use Rattle.follow.specs.Follow.{opened, next, endsSilentPair}
 use Rattle.place.specs.Phases.{ended}
 use Rattle.place.specs.declared.Ending.{Ending}
 use Rattle.place.specs.declared.Phase.{Phase}

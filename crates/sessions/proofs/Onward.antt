@@ -9,8 +9,8 @@ use borrow.Author.Tests.{lt-ltb, le-ltb, eq-eqb, ne-eqb}
 use Rattle.terms.proofs.Tests.{when-true, when-false, when-elim}
 use Rattle.load.specs.declared.Load.{Load}
 use Rattle.units.specs.declared.Seen.{Seen}
-use Rattle.place.specs.Bits.{pairBit, sentBit}
-use Rattle.place.specs.Follow.{opened, after, onward, afterPair, next, endsSilentPair}
+use Rattle.bits.specs.Bits.{pairBit, sentBit}
+use Rattle.follow.specs.Follow.{opened, after, onward, afterPair, next, endsSilentPair}
 use Rattle.place.specs.Phases.{places, ended}
 use Rattle.place.specs.declared.Phase.{Phase}
 use Rattle.place.specs.declared.Place.{Place}

@@ -14,9 +14,9 @@ use Rattle.load.specs.declared.Load.{Load}
 use Rattle.sequence.specs.Sequence.{draw}
 use Rattle.units.specs.declared.Seen.{Seen}
 use Rattle.units.specs.declared.Seen.the-variants.{Silence, Zero, One}
-use Rattle.place.specs.Bits.{sentBit}
-use Rattle.place.specs.Follow.{opened, after, afterVersion, onward, shows, afterConnection, afterVersionPair, afterGood, bad}
-use Rattle.place.specs.Follow.{afterWaitPair, afterPair, isSilence, endsSilent, endsSilentPair}
+use Rattle.bits.specs.Bits.{sentBit}
+use Rattle.follow.specs.Follow.{opened, after, afterVersion, onward, shows, afterConnection, afterVersionPair, afterGood, bad}
+use Rattle.follow.specs.Follow.{afterWaitPair, afterPair, isSilence, endsSilent, endsSilentPair}
 use Rattle.place.specs.Phases.{pairs, places}
 use Rattle.place.specs.declared.Acknowledgement.{Acknowledgement}
 use Rattle.place.specs.declared.Ending.the-variants.{Lost}

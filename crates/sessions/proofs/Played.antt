@@ -18,8 +18,8 @@ use Rattle.load.specs.declared.Load.{Load}
 use Rattle.load.specs.declared.Settings.{Settings}
 use Rattle.units.specs.declared.Seen.{Seen}
 use Rattle.units.specs.declared.Ticks.{Ticks}
-use Rattle.place.specs.Bits.{sentBit}
-use Rattle.place.specs.Follow.{opened, next}
+use Rattle.bits.specs.Bits.{sentBit}
+use Rattle.follow.specs.Follow.{opened, next}
 use Rattle.place.specs.Phases.{imagePulses, ended}
 use Rattle.place.specs.Ranges.{before}
 use Rattle.place.specs.declared.Phase.the-variants.{Ended}

@@ -12,8 +12,8 @@ use Rattle.load.specs.declared.Load.{Load}
 use Rattle.sequence.specs.Sequence.{draw}
 use Rattle.units.specs.Units.{most, longsIn}
 use Rattle.units.specs.declared.Seen.{Seen}
-use Rattle.place.specs.Bits.{valueBit, imageBit}
-use Rattle.place.specs.Follow.{opened, afterCommand, afterRam}
+use Rattle.bits.specs.Bits.{valueBit, imageBit}
+use Rattle.follow.specs.Follow.{opened, afterCommand, afterRam}
 use Rattle.place.specs.Phases.{imagePulses}
 use Rattle.place.specs.declared.Acknowledgement.the-variants.{Ram, Programming, Verification}
 use Rattle.place.specs.declared.Ending.the-variants.{Done, WrongVersion, BadRam, BadProgramming, BadVerification}

@@ -8,8 +8,8 @@ use Rattle.terms.specs.Choice.{when}
 use Rattle.sequence.specs.Sequence.{draw}
 use Rattle.units.specs.declared.Seen.{Seen}
 use Rattle.units.specs.declared.Seen.the-variants.{Silence, Zero, One}
-use Rattle.place.specs.Bits.{valueBit, imageBit}
-use Rattle.place.specs.Follow.{shows}
+use Rattle.bits.specs.Bits.{valueBit, imageBit}
+use Rattle.follow.specs.Follow.{shows}
 use Rattle.place.specs.declared.Ending.{Ending}
 use Rattle.place.specs.declared.Ending.the-variants.{Done, Lost, WrongVersion, BadRam, BadProgramming, BadVerification}
 

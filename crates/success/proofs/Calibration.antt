@@ -8,7 +8,7 @@ use Rattle.terms.specs.Choice.{when}
 use Rattle.terms.proofs.Tests.{when-false}
 use Rattle.units.specs.declared.Seen.the-variants.{Silence}
 use Rattle.load.specs.declared.Load.{Load}
-use Rattle.place.specs.Follow.{opened, onward, next}
+use Rattle.follow.specs.Follow.{opened, onward, next}
 use Rattle.place.specs.Phases as place
 use Rattle.place.specs.declared.Phase.the-variants as at
 use Rattle.phases.specs.Phases as chip

@@ -11,7 +11,7 @@ use Rattle.terms.proofs.Tests.{when-elim, either-false, less-false}
 use Rattle.load.specs.declared.Load.{Load}
 use Rattle.load.specs.declared.Settings.{Settings}
 use Rattle.load.proofs.Facts.{Fit}
-use Rattle.place.specs.Bits.{sentBit}
+use Rattle.bits.specs.Bits.{sentBit}
 use Rattle.host.specs.Time.{low, spacer}
 use Rattle.host.proofs.Legs.{low-most, spacer-most}
 use Rattle.phases.specs.Phases as chip

@@ -15,8 +15,8 @@ use Rattle.units.specs.declared.Seen.{Seen}
 use Rattle.units.specs.declared.Seen.the-variants.{Silence}
 use Rattle.units.proofs.Lines.{seen-told}
 use Rattle.load.specs.declared.Load.{Load}
-use Rattle.place.specs.Bits.{pairBit}
-use Rattle.place.specs.Follow.{afterConnection, afterVersionPair, afterWaitPair, next}
+use Rattle.bits.specs.Bits.{pairBit}
+use Rattle.follow.specs.Follow.{afterConnection, afterVersionPair, afterWaitPair, next}
 use Rattle.place.specs.declared.Phase.{Phase}
 use Rattle.place.specs.declared.Phase.the-variants.{Calibration, Handshake, Connection, Version, Command, Zeros, Size, Image, Wait, Ended}
 use Rattle.place.specs.declared.Place.{Place}

@@ -1,0 +1,149 @@
+-- `follow::after_pair`, phase by phase.
+-- Assumes nothing.
+use mathlib.Core.Path.{_≡_, refl, sym, ap, _∙_}
+use Prim.Native.Nat.{ℕ}
+use Rattle.load.specs.declared.Load.{Load}
+use Rattle.units.specs.declared.Seen.{Seen}
+use Rattle.place.specs.declared.Place.{Place}
+use Rattle.follow.specs.Follow.{onward, afterPair}
+use Rattle.place.specs.declared.Phase.{Phase}
+use borrow.Author.Needs.{needs}
+use Rattle.follow.proofs.following.after_pair.Statement.{statement}
+use Rattle.follow.proofs.following.after_pair.Tie as tie
+
+-- A phase in which what is seen does not count.
+plain : (load : Load) (phase p : Phase) (i : ℕ) (seen : Seen) (r : Place)
+    → phase ≡ p → onward load p i ≡ afterPair load p i seen → r ≡ onward load phase i → r ≡ afterPair load phase i seen
+plain load phase p i seen r e h q =
+    q ∙ ap (λ (x : Phase). onward load x i) e ∙ h ∙ ap (λ (x : Phase). afterPair load x i seen) (sym e)
+
+enum-told : tie.Need-enum-told
+enum-told c = search needs
+
+onward-requires : tie.Need-onward-requires
+onward-requires c κs = search needs
+
+enum-told-2 : tie.Need-enum-told-2
+enum-told-2 c = search needs
+
+onward-requires-2 : tie.Need-onward-requires-2
+onward-requires-2 c κs = search needs
+
+enum-told-3 : tie.Need-enum-told-3
+enum-told-3 c = search needs
+
+after-connection-requires : tie.Need-after-connection-requires
+after-connection-requires c κs = search needs
+
+enum-known-phase : tie.Need-enum-known-phase
+enum-known-phase c = search needs
+
+after-version-pair-requires : tie.Need-after-version-pair-requires
+after-version-pair-requires c κs = search needs
+
+enum-told-4 : tie.Need-enum-told-4
+enum-told-4 c = search needs
+
+onward-requires-3 : tie.Need-onward-requires-3
+onward-requires-3 c κs = search needs
+
+enum-told-5 : tie.Need-enum-told-5
+enum-told-5 c = search needs
+
+onward-requires-4 : tie.Need-onward-requires-4
+onward-requires-4 c κs = search needs
+
+enum-told-6 : tie.Need-enum-told-6
+enum-told-6 c = search needs
+
+onward-requires-5 : tie.Need-onward-requires-5
+onward-requires-5 c κs = search needs
+
+enum-told-7 : tie.Need-enum-told-7
+enum-told-7 c = search needs
+
+onward-requires-6 : tie.Need-onward-requires-6
+onward-requires-6 c κs = search needs
+
+enum-known-phase-2 : tie.Need-enum-known-phase-2
+enum-known-phase-2 c = search needs
+
+after-wait-pair-requires : tie.Need-after-wait-pair-requires
+after-wait-pair-requires c κs = search needs
+
+enum-told-8 : tie.Need-enum-told-8
+enum-told-8 c = search needs
+
+onward-requires-7 : tie.Need-onward-requires-7
+onward-requires-7 c κs = search needs
+
+returns : tie.Need-returns
+returns c = plain _ _ _ _ _ _ (c .before .enum-told .given .1) refl (c .onward .ensures)
+
+returns-2 : tie.Need-returns-2
+returns-2 c = plain _ _ _ _ _ _ (c .before .enum-told2 .given .1) refl (c .onward2 .ensures)
+
+returns-3 : tie.Need-returns-3
+returns-3 c = rw (c .before .enum-told3 .given .1) (c .after-connection .ensures)
+
+returns-4 : tie.Need-returns-4
+returns-4 c =
+    let a = c .before .before .before .before .args in
+    c .after-version-pair .ensures
+    ∙ ap (λ (p : Phase). afterPair (a .load) p (a .index) (a .seen)) (sym (c .before .before .phase .given .1))
+
+returns-5 : tie.Need-returns-5
+returns-5 c = plain _ _ _ _ _ _ (c .before .enum-told4 .given .1) refl (c .onward3 .ensures)
+
+returns-6 : tie.Need-returns-6
+returns-6 c = plain _ _ _ _ _ _ (c .before .enum-told5 .given .1) refl (c .onward4 .ensures)
+
+returns-7 : tie.Need-returns-7
+returns-7 c = plain _ _ _ _ _ _ (c .before .enum-told6 .given .1) refl (c .onward5 .ensures)
+
+returns-8 : tie.Need-returns-8
+returns-8 c = plain _ _ _ _ _ _ (c .before .enum-told7 .given .1) refl (c .onward6 .ensures)
+
+returns-9 : tie.Need-returns-9
+returns-9 c =
+    let a = c .before .before .before .before .args in
+    c .after-wait-pair .ensures
+    ∙ ap (λ (p : Phase). afterPair (a .load) p (a .index) (a .seen)) (sym (c .before .before .phase2 .given .1))
+
+returns-10 : tie.Need-returns-10
+returns-10 c = plain _ _ _ _ _ _ (c .before .enum-told8 .given .1) refl (c .onward7 .ensures)
+
+pub after-pair-spec : {M : Type 1} → statement M
+after-pair-spec =
+    tie.close
+    (tie.spec
+    enum-told
+    onward-requires
+    enum-told-2
+    onward-requires-2
+    enum-told-3
+    after-connection-requires
+    enum-known-phase
+    after-version-pair-requires
+    enum-told-4
+    onward-requires-3
+    enum-told-5
+    onward-requires-4
+    enum-told-6
+    onward-requires-5
+    enum-told-7
+    onward-requires-6
+    enum-known-phase-2
+    after-wait-pair-requires
+    enum-told-8
+    onward-requires-7
+    returns
+    returns-2
+    returns-3
+    returns-4
+    returns-5
+    returns-6
+    returns-7
+    returns-8
+    returns-9
+    returns-10)

@@ -1,0 +1,42 @@
+// What follows a pulse: the next place, the endings, and the silent pairs of a wait.
+ghost use mathlib.Core.Path.{_≡_};
+ghost use Rattle.follow.specs.Follow.{endsSilentPair, next};
+
+mod following;
+
+use load::Load;
+use place::Phase;
+use place::Place;
+use units::Seen;
+
+// The place after the pulse at this one. `seen` is what was seen around the pulse before it, and counts only where this is the
+// second pulse of a pair.
+pub fn next(place: Place, load: Load, seen: Seen) -> Place
+    ensures { λ r. ⌜ r ≡ next load (place .phase) (place .index) seen ⌝ }
+{
+    let phase = place.phase;
+    let index = place.index;
+    if bits::pair_bit(index) {
+        return following::onward(load, phase, index);
+    }
+    following::after_pair(load, phase, index, seen)
+}
+
+// Whether the pulse at a place ends a silent pair of a wait.
+pub fn ends_silent_pair(place: Place, seen: Seen) -> bool
+    ensures { λ r. ⌜ r ≡ endsSilentPair (place .phase) (place .index) seen ⌝ }
+{
+    let phase = place.phase;
+    match phase {
+        Phase::Calibration => false,
+        Phase::Handshake => false,
+        Phase::Connection => false,
+        Phase::Version(_) => false,
+        Phase::Command => false,
+        Phase::Zeros => false,
+        Phase::Size => false,
+        Phase::Image => false,
+        Phase::Wait(_) => following::ends_silent(place.index, seen),
+        Phase::Ended(_) => false,
+    }
+}
