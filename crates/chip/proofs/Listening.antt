@@ -23,7 +23,7 @@ use Rattle.listener.specs.Heard.{afterDraw, compared, afterConnection, stored, 
 use Rattle.listener.specs.Heard.{receivedCommand, receivedSize, receivedLong, readCommand, readSize, readLong, aligned, heard}
 use Rattle.listener.specs.Hears.{hears, failed, settled}
 use Rattle.listener.specs.Late.{late, lateAcknowledgement, lateReply, afterLate}
-use Rattle.listener.specs.Reading.{thresholdOf, reads, grown}
+use Rattle.line.specs.Reading.{thresholdOf, reads, grown}
 use Rattle.listener.specs.declared.Heard.{Heard}
 use Rattle.listener.specs.declared.Listener.{Listener}
 use Rattle.chip.proofs.Within.{Within}

@@ -21,7 +21,7 @@ use Rattle.phases.specs.declared.Phase.the-variants.{Handshake, Answer, Rest, C
 use Rattle.phases.specs.declared.Reply.the-variants.{Connection}
 use Rattle.listener.specs.Heard.{quiet, agree, afterDraw, compared, afterConnection}
 use Rattle.listener.specs.Hears.{settled}
-use Rattle.listener.specs.Replies.{connectionBit, shown}
+use Rattle.line.specs.Replies.{connectionBit, shown}
 use Rattle.listener.specs.declared.Event.the-variants.{Nothing}
 use Rattle.listener.specs.declared.Listener.{Listener}
 use Rattle.conversation.specs.Conversation.{Talk, talked, Reach, start}

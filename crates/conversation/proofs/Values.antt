@@ -23,7 +23,7 @@ use Rattle.place.specs.declared.Place.{Place}
 use Rattle.eeprom.specs.declared.Fault.the-variants.{None}
 use Rattle.phases.specs.declared.Phase.{Phase}
 use Rattle.listener.specs.Heard.{inPhase, quiet, heard}
-use Rattle.listener.specs.Reading.{grown}
+use Rattle.line.specs.Reading.{grown}
 use Rattle.listener.specs.declared.Event.{Event}
 use Rattle.listener.specs.declared.Event.the-variants.{Nothing}
 use Rattle.listener.specs.declared.Heard.{Heard}

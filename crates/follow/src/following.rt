@@ -10,8 +10,6 @@ use place::Phase;
 use place::Place;
 use units::Seen;
 
-const FIRST_CONNECTION_DRAW: u32 = 251;
-
 const GOOD_VERSION: u8 = 1;
 
 // A version's bits come low bit first: each is shifted in from the top, so that eight of them are the version.
@@ -92,7 +90,10 @@ fn after_command(command: u32) -> Phase
 fn after_connection(load: Load, index: u32, seen: Seen) -> Place
     ensures { λ r. ⌜ r ≡ afterConnection load index seen ⌝ }
 {
-    if shows(seen, sequence::draw(FIRST_CONNECTION_DRAW + index / 2)) {
+    if shows(
+        seen,
+        sequence::draw(sequence::FIRST_CONNECTION_DRAW + index / 2),
+    ) {
         return onward(load, Phase::Connection, index);
     }
     opened(Phase::Ended(Ending::Lost))

@@ -12,7 +12,7 @@ use Rattle.phases.specs.declared.Ending.the-variants.{Launched, Booted, Shut, O
 use Rattle.phases.specs.declared.Phase.{Phase}
 use Rattle.phases.specs.declared.Phase.the-variants.{First, Second, Handshake, Answer, Rest, Command, Size, Long, Align, Ended}
 use Rattle.phases.specs.declared.Reply.the-variants.{Connection, Acknowledging}
-use Rattle.listener.specs.Reading.{thresholdOf}
+use Rattle.line.specs.Reading.{thresholdOf}
 use Rattle.listener.specs.declared.Listener.{Listener}
 use Rattle.history.specs.Download.{spelled, bitOf, commandOf, Acknowledged}
 

@@ -25,7 +25,7 @@ use Rattle.listener.specs.Heard.{withThreshold, withCommand, withSize, led, boo
 use Rattle.listener.specs.Heard as said
 use Rattle.listener.specs.Hears.{hears, failed, settled}
 use Rattle.listener.specs.Late.{lateAcknowledgement, afterLate}
-use Rattle.listener.specs.Reading.{thresholdOf, reads, grown}
+use Rattle.line.specs.Reading.{thresholdOf, reads, grown}
 use Rattle.listener.specs.declared.Event.{Event}
 use Rattle.listener.specs.declared.Event.the-variants.{Nothing, Store, Finish, Program, Verify}
 use Rattle.listener.specs.declared.Heard.{Heard}

@@ -8,7 +8,7 @@ use native.Mathlib.Nat.{add-mul, add-zero, mul-assoc, pow-suc}
 use native.Mathlib.Omega.{arith}
 use lib.Pow.{pow-add}
 use Rattle.terms.specs.Choice.{when}
-use Rattle.listener.specs.Reading.{grown}
+use Rattle.line.specs.Reading.{grown}
 
 module _ (s n m v : ℕ) (places : n + m ≡ 31) (above : v ≡ s * 2 ^ suc m) where
   halved : v / 2 ≡ s * 2 ^ m

@@ -10,7 +10,7 @@ use Rattle.sequence.specs.Sequence.{draw}
 use Rattle.phases.specs.declared.Acknowledgement.the-variants.{Stored}
 use Rattle.phases.specs.declared.Phase.the-variants.{Answer}
 use Rattle.phases.specs.declared.Reply.the-variants.{Acknowledging}
-use Rattle.listener.specs.Reading.{thresholdOf, reads}
+use Rattle.line.specs.Reading.{thresholdOf, reads}
 use Rattle.history.specs.History.{State, Played}
 
 -- The value that the first bits spell, low bit first.

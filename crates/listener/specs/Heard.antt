@@ -8,8 +8,8 @@ use Rattle.sequence.specs.Sequence.{draw}
 use Rattle.units.specs.declared.Longs.{Longs}
 use Rattle.units.specs.declared.Seen.{Seen}
 use Rattle.units.specs.declared.Seen.the-variants.{Silence}
-use Rattle.listener.specs.Reading.{thresholdOf, grown}
-use Rattle.listener.specs.Replies.{replyBit, shown}
+use Rattle.line.specs.Reading.{thresholdOf, grown}
+use Rattle.line.specs.Replies.{replyBit, shown}
 use Rattle.phases.specs.declared.Acknowledgement.{Acknowledgement}
 use Rattle.phases.specs.declared.Acknowledgement.the-variants.{Stored, Programmed, Verified, Failed}
 use Rattle.phases.specs.declared.Ending.the-variants.{Launched, Booted, Shut, Off}

@@ -5,7 +5,7 @@ use Prim.Native.Nat.{ℕ}
 use Rattle.terms.specs.Choice.{when}
 use Rattle.listener.specs.Heard.{inPhase, heard}
 use Rattle.listener.specs.Late.{late, afterLate}
-use Rattle.listener.specs.Reading.{reads}
+use Rattle.line.specs.Reading.{reads}
 use Rattle.phases.specs.declared.Acknowledgement.the-variants.{Failed}
 use Rattle.phases.specs.declared.Ending.the-variants.{Shut}
 use Rattle.listener.specs.declared.Event.{Event}

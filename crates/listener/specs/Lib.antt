@@ -2,5 +2,3 @@ pub mod Heard
 pub mod Hears
 pub mod Late
 pub mod Ranges
-pub mod Reading
-pub mod Replies

@@ -7,7 +7,6 @@ ghost use Rattle.listener.specs.Heard.{replied, shutting, stored, verifi
 use crate::Event;
 use crate::Heard;
 use crate::Listener;
-use crate::reading;
 use crate::replies;
 use phases::Acknowledgement;
 use phases::Ending;
@@ -25,7 +24,7 @@ pub(crate) fn heard(listener: Listener, low: Loops, bit: bool) -> Heard
     match phase {
         Phase::First => quiet(listener, Phase::Second(low)),
         Phase::Second(first) => quiet(
-            with_threshold(listener, reading::threshold(first, low)),
+            with_threshold(listener, line::threshold(first, low)),
             Phase::Handshake(1),
         ),
         Phase::Handshake(k) => compared(listener, k, bit),
@@ -36,9 +35,9 @@ pub(crate) fn heard(listener: Listener, low: Loops, bit: bool) -> Heard
             replies::seen(reply),
         ),
         Phase::Rest(reply) => replied(listener, reply),
-        Phase::Command(bits, so_far) => read_command(listener, bits, reading::grown(so_far, bit)),
-        Phase::Size(bits, so_far) => read_size(listener, bits, reading::grown(so_far, bit)),
-        Phase::Long(bits, k, so_far) => read_long(listener, k, bits, reading::grown(so_far, bit)),
+        Phase::Command(bits, so_far) => read_command(listener, bits, line::grown(so_far, bit)),
+        Phase::Size(bits, so_far) => read_size(listener, bits, line::grown(so_far, bit)),
+        Phase::Long(bits, k, so_far) => read_long(listener, k, bits, line::grown(so_far, bit)),
         Phase::Align(acknowledgement) => aligned(listener, acknowledgement, bit),
         Phase::Ended(ending) => quiet(listener, Phase::Ended(ending)),
     }

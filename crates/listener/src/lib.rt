@@ -6,7 +6,6 @@ ghost use Rattle.listener.specs.Ranges.{listenerOutside};
 
 mod hearing;
 mod late;
-mod reading;
 mod replies;
 
 use phases::Phase;
@@ -74,7 +73,7 @@ impl Listener {
         if late::is_late(self, wait, low) {
             return late::timed_out(self);
         }
-        hearing::heard(self, low, reading::reads(self.threshold, low))
+        hearing::heard(self, low, line::reads(self.threshold, low))
     }
 }
 

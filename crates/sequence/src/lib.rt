@@ -7,6 +7,9 @@ mod states;
 // The number of states before the sequence repeats.
 pub const PERIOD: u32 = 255;
 
+// The handshake takes the draws before this one, the connection goes on with it.
+pub const FIRST_CONNECTION_DRAW: u32 = 251;
+
 // The state after `state`: shifted left one place, with the exclusive or of its bits 7, 5, 4 and 1 as the new bit 0.
 pub fn advance(state: u8) -> u8
     ensures { λ r. ⌜ r ≡ advanced state ⌝ }

@@ -15,7 +15,7 @@ use Rattle.phases.specs.Phases as chip
 use Rattle.phases.specs.declared.Phase.{Phase}
 use Rattle.phases.specs.declared.Phase.the-variants.{First, Second}
 use Rattle.listener.specs.Hears.{hears, settled}
-use Rattle.listener.specs.Reading.{thresholdOf, reads}
+use Rattle.line.specs.Reading.{thresholdOf, reads}
 use Rattle.listener.specs.declared.Listener.{Listener}
 use Rattle.conversation.specs.Conversation.{Talk, bitOf, placeAfter, heardOf, passed, Reach, start}
 use Rattle.joined.specs.Joined.{State, Measuring, pulsed, hostEnded}

@@ -23,7 +23,7 @@ use Rattle.place.specs.declared.Place.{Place}
 use Rattle.phases.specs.Phases as chip
 use Rattle.listener.specs.Hears.{hears, settled}
 use Rattle.listener.specs.Late.{late}
-use Rattle.listener.specs.Reading.{reads}
+use Rattle.line.specs.Reading.{reads}
 use Rattle.listener.specs.declared.Heard.{Heard}
 use Rattle.eeprom.specs.declared.Fault.{Fault}
 use Rattle.eeprom.specs.declared.Fault.the-variants.{None}

@@ -7,7 +7,7 @@ use Prim.Native.Nat.{ℕ, _+_, _-_, _*_, _/_, _%_, _≤_, _<_}
 use native.Mathlib.Nat.{add-mul, div-add-mod', lt-of-mul-lt-mul-right, mod-lt}
 use native.Mathlib.Omega.{arith}
 use borrow.Author.Tests.{lt-ltb, le-ltb}
-use Rattle.listener.specs.Reading.{thresholdOf, reads}
+use Rattle.line.specs.Reading.{thresholdOf, reads}
 use Rattle.success.specs.Success.{May, Loop, Margin}
 
 -- Two lengths differ by less than a third.

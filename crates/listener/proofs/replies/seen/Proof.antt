@@ -5,14 +5,14 @@ use borrow.Author.Needs.{needs}
 use Rattle.listener.proofs.replies.seen.Statement.{statement}
 use Rattle.listener.proofs.replies.seen.Tie as tie
 
-bit-requires : tie.Need-bit-requires
-bit-requires c κs = search needs
+reply-bit-requires : tie.Need-reply-bit-requires
+reply-bit-requires c κs = search needs
 
 shown-requires : tie.Need-shown-requires
 shown-requires c κs = search needs
 
 returns : tie.Need-returns
-returns c = rw (c .shown .ensures, c .before .bit .ensures) refl
+returns c = rw (c .shown .ensures, c .before .reply-bit .ensures) refl
 
 pub seen-spec : {M : Type 1} → statement M
-seen-spec = tie.close (tie.spec bit-requires shown-requires returns)
+seen-spec = tie.close (tie.spec reply-bit-requires shown-requires returns)

@@ -1,7 +1,7 @@
 -- `replies::shown`, by the bit.
 -- Assumes nothing.
 use Rattle.terms.proofs.Refusals.{walk}
-use Rattle.listener.specs.Replies.{shown}
+use Rattle.line.specs.Replies.{shown}
 use Rattle.listener.proofs.replies.shown.Statement.{statement}
 use Rattle.listener.proofs.replies.shown.Tie as tie
 

@@ -1,8 +1,8 @@
--- `replies::bit`, by the reply.
+-- `reply_bit`, by the reply.
 -- Assumes nothing.
 use borrow.Author.Needs.{needs}
-use Rattle.listener.proofs.replies.bit.Statement.{statement}
-use Rattle.listener.proofs.replies.bit.Tie as tie
+use Rattle.line.proofs.reply_bit.Statement.{statement}
+use Rattle.line.proofs.reply_bit.Tie as tie
 
 enum-known-reply : tie.Need-enum-known-reply
 enum-known-reply c = search needs
@@ -22,8 +22,8 @@ returns c = rw (c .before .before .reply .given .1) (c .connection-bit .ensures)
 returns-2 : tie.Need-returns-2
 returns-2 c = search needs
 
-pub bit-spec : {M : Type 1} → statement M
-bit-spec =
+pub reply-bit-spec : {M : Type 1} → statement M
+reply-bit-spec =
     tie.close
     (tie.spec
     enum-known-reply

@@ -1,4 +1,4 @@
--- `reading::grown`: halved, a value of 32 bits leaves its top bit free.
+-- `grown`: halved, a value of 32 bits leaves its top bit free.
 -- Assumes nothing.
 use mathlib.Core.Bool.{Bool, true, false}
 use mathlib.Core.Path.{_≡_, _∙_}
@@ -7,11 +7,11 @@ use native.Mathlib.Nat.{add-comm}
 use native.Mathlib.Omega.{arith}
 use lib.Bits.{bitOr, or-shifted-r}
 use mir.Val.{boolByte}
-use Rattle.listener.specs.Reading.{grown}
+use Rattle.line.specs.Reading.{grown}
 use Rattle.terms.specs.Choice.{when}
 use borrow.Author.Needs.{needs}
-use Rattle.listener.proofs.reading.grown.Statement.{statement}
-use Rattle.listener.proofs.reading.grown.Tie as tie
+use Rattle.line.proofs.grown.Statement.{statement}
+use Rattle.line.proofs.grown.Tie as tie
 
 shifted-in : (v : ℕ) (b : Bool) → v < 4294967296 → bitOr (v / 2) (boolByte b * 2147483648 % 4294967296) ≡ grown v b
 unfolding grown when

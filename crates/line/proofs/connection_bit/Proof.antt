@@ -1,10 +1,10 @@
--- `replies::connection_bit`: the draws, then the version.
+-- `connection_bit`: the draws, then the version.
 -- Assumes nothing.
 use Rattle.terms.proofs.Refusals.{walk}
-use Rattle.listener.specs.Replies.{connectionBit}
+use Rattle.line.specs.Replies.{connectionBit}
 use borrow.Author.Needs.{needs}
-use Rattle.listener.proofs.replies.connection_bit.Statement.{statement}
-use Rattle.listener.proofs.replies.connection_bit.Tie as tie
+use Rattle.line.proofs.connection_bit.Statement.{statement}
+use Rattle.line.proofs.connection_bit.Tie as tie
 
 add-draw : tie.Need-add-draw
 add-draw c = search needs
