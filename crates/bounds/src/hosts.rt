@@ -5,10 +5,10 @@ use crate::print::say;
 use host::Host;
 use host::Planned;
 use load::Load;
-use load::Settings;
 use place::Phase;
 use place::Place;
 use session::Session;
+use settings::Settings;
 use units::Bytes;
 use units::Seen;
 

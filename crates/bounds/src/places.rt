@@ -3,12 +3,12 @@ use crate::hosts;
 use crate::print::number;
 use crate::print::say;
 use load::Load;
-use load::Settings;
 use place::Acknowledgement;
 use place::Ending;
 use place::Phase;
 use place::Place;
 use session::Session;
+use settings::Settings;
 use units::Bytes;
 
 pub(crate) fn all() {

@@ -12,7 +12,7 @@ use Rattle.host.specs.Time.{low, spacer}
 use Rattle.lent.specs.Bytes.{wordAt, total}
 use Rattle.load.specs.Image.{badLength, otherLength, otherStart, badStack, otherSum}
 use Rattle.load.specs.Load.{loadOutside}
-use Rattle.load.specs.Settings.{outside, settingsOutside}
+use Rattle.settings.specs.Settings.{outside, settingsOutside}
 use Rattle.ram.specs.Ram.{flagged, flaggedBelow}
 use Rattle.ram.proofs.Stored.{flags-of-0, flags-of-4}
 use Rattle.follow.specs.Follow.{onward, next}

@@ -10,10 +10,10 @@ use Rattle.terms.specs.Refusals.{taken}
 use Rattle.terms.proofs.Refusals.{clear-both, clear-taken, taken-exactly}
 use Rattle.terms.proofs.Tests.{either-false}
 use Rattle.load.specs.Load.{loadRows, loadOf}
-use Rattle.load.specs.Settings.{settingsRows, checked}
-use Rattle.load.specs.declared.Settings.{Settings}
-use Rattle.load.proofs.Exactly.{settings-taken}
-use Rattle.load.proofs.Within.{settings-within}
+use Rattle.settings.specs.Settings.{settingsRows, checked}
+use Rattle.settings.specs.declared.Settings.{Settings}
+use Rattle.settings.proofs.Exactly.{settings-taken}
+use Rattle.settings.proofs.Exactly.{settings-within}
 use Rattle.session.specs.Step.{stepRows, pulseOf, sessionStart, sessionStep}
 use Rattle.session.specs.Step as session
 use Rattle.session.proofs.Kept as kept

@@ -6,8 +6,8 @@ use Prim.Native.Nat.{ℕ, _*_, _≤_}
 use native.Mathlib.Omega.{arith}
 use borrow.Author.Tests.{ltb-false}
 use Rattle.terms.specs.Choice.{when}
-use Rattle.load.specs.declared.Settings.{Settings}
-use Rattle.load.proofs.Facts.{Fit}
+use Rattle.settings.specs.declared.Settings.{Settings}
+use Rattle.settings.proofs.Exactly.{Fit}
 use Rattle.host.specs.Step.{late}
 use Rattle.host.specs.Time.{low, spacer}
 

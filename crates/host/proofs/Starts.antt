@@ -6,10 +6,12 @@ use Prim.Native.Nat.{ℕ}
 use Rattle.terms.specs.Refusals.{refused, taken}
 use Rattle.terms.proofs.Refusals.{refused-before, taken-before, refused-alike, taken-alike, clear-both, clear-taken, taken-exactly}
 use Rattle.load.specs.Load.{loadRows, loadOf, accepted}
-use Rattle.load.specs.Settings.{settingsRows, checked}
-use Rattle.load.specs.declared.Settings.{Settings}
-use Rattle.load.proofs.Exactly.{settings-taken, load-taken}
-use Rattle.load.proofs.Facts.{Fit, Known}
+use Rattle.settings.specs.Settings.{settingsRows, checked}
+use Rattle.settings.specs.declared.Settings.{Settings}
+use Rattle.settings.proofs.Exactly.{settings-taken}
+use Rattle.load.proofs.Exactly.{load-taken}
+use Rattle.settings.proofs.Exactly.{Fit}
+use Rattle.load.proofs.Facts.{Known}
 use Rattle.session.specs.Step.{sessionStart}
 use Rattle.session.specs.Step as session
 use Rattle.session.specs.declared.Session.{Session}

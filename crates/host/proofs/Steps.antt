@@ -8,8 +8,8 @@ use native.Mathlib.Omega.{arith}
 use Rattle.terms.specs.Refusals.{refused, taken}
 use Rattle.terms.proofs.Refusals.{refused-alike, taken-alike, taken-exactly}
 use Rattle.terms.proofs.Tests.{when-true, when-false, either-false}
-use Rattle.load.proofs.Facts.{Fit}
-use Rattle.load.proofs.Within.{settings-within}
+use Rattle.settings.proofs.Exactly.{Fit}
+use Rattle.settings.proofs.Exactly.{settings-within}
 use Rattle.session.specs.Step.{stepRows, pulseOf, sessionStep}
 use Rattle.session.specs.declared.Pulse.{Pulse}
 use Rattle.session.proofs.Within.{pulses-most}

@@ -7,8 +7,8 @@ use lib.Dec.{ltb}
 use Rattle.terms.specs.Choice.{either}
 use Rattle.terms.specs.Refusals.{Row, Answer, refused, taken, _given-when_, first}
 use Rattle.load.specs.Load.{loadRows, loadOf}
-use Rattle.load.specs.Settings.{settingsRows, settingsOutside}
-use Rattle.load.specs.declared.Settings.{Settings}
+use Rattle.settings.specs.Settings.{settingsRows, settingsOutside}
+use Rattle.settings.specs.declared.Settings.{Settings}
 use Rattle.session.specs.Step.{stepRows, pulseOf}
 use Rattle.session.specs.Step as session
 use Rattle.session.specs.declared.Session.{Session}

@@ -3,7 +3,7 @@
 use mathlib.Core.Bool.{Bool}
 use Prim.Native.Nat.{ℕ, _*_, _/_, max}
 use Rattle.terms.specs.Choice.{when}
-use Rattle.load.specs.declared.Settings.{Settings}
+use Rattle.settings.specs.declared.Settings.{Settings}
 use Rattle.units.specs.declared.Ticks.{Ticks}
 
 -- A bit 1 is a low of t, a bit 0 a low of 2t; t and h are in ns.

@@ -5,11 +5,11 @@ ghost use Rattle.host.specs.Step.{hostStart, hostStep, toldBegun, toldPl
 mod ranges;
 mod time;
 
-use load::Checked;
-use load::Settings;
 use session::Session;
 use session::Started;
 use session::Stepped;
+use settings::Checked;
+use settings::Settings;
 use units::Seen;
 use units::Ticks;
 

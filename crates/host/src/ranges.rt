@@ -3,7 +3,7 @@ ghost use mathlib.Core.Path.{_≡_};
 ghost use Rattle.host.specs.Step.{hostOutside, late};
 use crate::Host;
 use crate::time::PS_PER_NS;
-use load::Settings;
+use settings::Settings;
 
 // The longest pulse with its spacer, in ps: a 0 of the largest t, then the largest h.
 const LONGEST_LEG: u64 = (2 * Settings::LARGEST_T + Settings::LARGEST_H) as u64 * PS_PER_NS;

@@ -2,7 +2,7 @@
 ghost use mathlib.Core.Path.{_≡_};
 ghost use Prim.Native.Nat.{_<_, max};
 ghost use Rattle.host.specs.Time.{low, spacer, tick};
-use load::Settings;
+use settings::Settings;
 use units::Ticks;
 
 // The settings' t and h are in ns.

@@ -1,11 +1,11 @@
--- When a start is refused and when it is taken, exactly. A number is given when its row applies and no row before it does; what is taken
--- has the facts of `Fit` or of `Known`, and whatever has them is taken.
+-- When a load is refused and when it is taken, exactly. A number is given when its row applies and no row before it does; what is taken has
+-- the facts of `Known`, and whatever has them is taken.
 -- Assumes nothing.
 use mathlib.Core.Bool.{Bool, true, false}
 use mathlib.Core.List.{List, []}
-use mathlib.Core.Logic.{_↔_, Iff·rfl}
+use mathlib.Core.Logic.{_↔_}
 use mathlib.Core.Path.{_≡_, refl}
-use Prim.Native.Nat.{ℕ, _≤_}
+use Prim.Native.Nat.{ℕ}
 use lib.Dec.{eqb}
 use borrow.Author.Tests.{eqb-true, eqb-false, le-ltb, ltb-false}
 use Rattle.terms.specs.Choice.{when}
@@ -14,31 +14,8 @@ use Rattle.terms.proofs.Tests.{when-true, when-false, either-false, less-false,
 use Rattle.terms.proofs.Refusals.{Given, Clear, refused-exactly, taken-exactly}
 use Rattle.load.specs.Image.{badLength, otherLength, otherStart, badStack, otherSum}
 use Rattle.load.specs.Load.{imageRows, loadRows, loadOf, accepted}
-use Rattle.load.specs.Settings.{outside, settingsRows, checked}
 use Rattle.load.specs.declared.Load.{Load}
-use Rattle.load.specs.declared.Settings.{Settings}
-use Rattle.load.proofs.Facts.{Fit, Good, Known}
-
-pub within : (smallest largest x : ℕ) → (outside smallest largest x ≡ false) ↔ ((smallest ≤ x) × (x ≤ largest))
-unfolding outside
-within smallest largest x = simp (either-false, less-false) Iff·rfl
-
-module _ (t h p : ℕ) where
-  fit : Clear (settingsRows t h p) → Fit t h p
-  fit c = record { t-within = within _ _ t .0 (c .0); h-within = within _ _ h .0 (c .1 .0); p-within = within _ _ p .0 (c .1 .1 .0) }
-
-  fit-clear : Fit t h p → Clear (settingsRows t h p)
-  fit-clear f = (within _ _ t .1 (f .t-within), (within _ _ h .1 (f .h-within), (within _ _ p .1 (f .p-within), tt)))
-
-  pub settings-refused : (n : ℕ) → (checked t h p ≡ refused n) ↔ Given n (settingsRows t h p)
-  unfolding checked
-  settings-refused n = refused-exactly _ n (settingsRows t h p)
-
-  pub settings-taken : (s : Settings) → (checked t h p ≡ taken s) ↔ (Fit t h p × (s ≡ record { t = t; h = h; p = p }))
-  unfolding checked
-  settings-taken s =
-      let e = taken-exactly (record { t = t; h = h; p = p }) s (settingsRows t h p) in
-      ((λ q. let w = e .0 q in (fit (w .0), w .1)), (λ w. e .1 (fit-clear (w .0), w .1)))
+use Rattle.load.proofs.Facts.{Good, Known}
 
 module _ (image : List ℕ) where
   good : Clear (imageRows image) → Good image

@@ -1,16 +1,10 @@
--- What is known of the settings and of the load that a start takes.
+-- What is known of a load that a start takes.
 -- Assumes nothing.
 use mathlib.Core.List.{List}
 use mathlib.Core.Path.{_≡_}
 use Prim.Native.Nat.{ℕ, _+_, _%_, _≤_}
 use lib.ListN.{length}
 use Rattle.lent.specs.Bytes.{wordAt, total}
-
--- Each figure lies within its bounds.
-pub record Fit (t h p : ℕ) : Type 0 where
-  pub t-within : (4300 ≤ t) × (t ≤ 26000)
-  pub h-within : (4300 ≤ h) × (h ≤ 90000000)
-  pub p-within : (1000 ≤ p) × (p ≤ 1000000)
 
 -- What a good image is.
 pub record Good (image : List ℕ) : Type 0 where

@@ -1,4 +1,4 @@
--- The tests of rows 1 to 3 and 5 to 9 as 01's sentences: each holds exactly when its sentence does.
+-- The tests of rows 5 to 9 as 01's sentences: each holds exactly when its sentence does.
 -- Assumes nothing.
 use mathlib.Core.Bool.{true}
 use mathlib.Core.List.{List}
@@ -9,11 +9,6 @@ use lib.ListN.{length}
 use Rattle.terms.proofs.Tests.{either-says, less-true, differ-true}
 use Rattle.lent.specs.Bytes.{wordAt, total}
 use Rattle.load.specs.Image.{badLength, otherLength, otherStart, badStack, otherSum}
-use Rattle.load.specs.Settings.{outside}
-
-pub outside-says : (smallest largest x : ℕ) → (outside smallest largest x ≡ true) ↔ ((x < smallest) ⊎ (largest < x))
-unfolding outside
-outside-says smallest largest x = either-says _ _ (less-true x smallest) (less-true largest x)
 
 pub bad-length-says : (n : ℕ) → (badLength n ≡ true) ↔ ((n < 16) ⊎ ((32760 < n) ⊎ (n % 4 ≡ 0 → ⊥)))
 unfolding badLength

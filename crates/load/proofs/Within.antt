@@ -1,8 +1,7 @@
--- Settings and loads within their ranges: what is known of them, and that a start takes no others.
+-- Loads within their ranges: what is known of them, and that a start takes no others.
 -- Assumes nothing.
 use mathlib.Core.Bool.{Bool, true, false, not}
 use mathlib.Core.List.{List}
-use mathlib.Core.Logic.{_↔_}
 use mathlib.Core.Path.{_≡_, refl, sym, _∙_}
 use Prim.Native.Nat.{ℕ, _≤_}
 use native.Mathlib.Omega.{arith}
@@ -12,21 +11,9 @@ use Rattle.terms.specs.Choice.{when, either}
 use Rattle.terms.proofs.Tests.{when-true, when-false, either-false, less-false, differ-false}
 use Rattle.load.specs.Image.{badLength}
 use Rattle.load.specs.Load.{loadOf, loadOutside}
-use Rattle.load.specs.Settings.{settingsOutside}
 use Rattle.load.specs.declared.Load.{Load}
-use Rattle.load.specs.declared.Settings.{Settings}
-use Rattle.load.proofs.Exactly.{within, good-clear}
-use Rattle.load.proofs.Facts.{Fit, Known}
-
-pub settings-within : (s : Settings) → (settingsOutside s ≡ false) ↔ Fit (s .t) (s .h) (s .p)
-unfolding settingsOutside
-settings-within s = (
-  (λ q.
-      let parts = either-false _ _ .0 q in
-      let rest = either-false _ _ .0 (parts .1) in
-      record { t-within = within _ _ (s .t) .0 (parts .0); h-within = within _ _ (s .h) .0 (rest .0); p-within = within _ _ (s .p) .0 (rest .1) }),
-  (λ f. simp either-false (within _ _ (s .t) .1 (f .t-within), (within _ _ (s .h) .1 (f .h-within), within _ _ (s .p) .1 (f .p-within)))),
-)
+use Rattle.load.proofs.Exactly.{good-clear}
+use Rattle.load.proofs.Facts.{Known}
 
 -- A command with a length that goes with it.
 pub record Sized (command n : ℕ) : Type 0 where

@@ -1,3 +1,2 @@
 pub mod Image
 pub mod Load
-pub mod Settings

@@ -1,24 +1,10 @@
-// What a start accepts: the settings of a bench, and a command with its image.
+// What a start accepts beside its settings: a command with its image.
 ghost use mathlib.Core.Path.{_≡_};
-ghost use Rattle.load.specs.Settings.{outside, checked, settingsOutside, toldChecked};
 ghost use Rattle.load.specs.Load.{accepted, loadOutside, toldAccepted};
 
 mod image;
 
 use units::Bytes;
-
-// The figures of a bench: the unit time `t` and the spacer `h` in ns, the tick `p` in ps.
-pub struct Settings {
-    pub t: u32,
-    pub h: u32,
-    pub p: u32,
-}
-
-// What `Settings::new` answers: a refusal by its number, or the settings.
-pub enum Checked {
-    Refused(u8),
-    Taken(Settings),
-}
 
 // A command, and the length of the image that goes with it: 0 for command 0, which has none.
 pub struct Load {
@@ -30,49 +16,6 @@ pub struct Load {
 pub enum Accepted {
     Refused(u8),
     Taken(Load),
-}
-
-impl Settings {
-    pub const SMALLEST_T: u32 = 4_300;
-
-    pub const LARGEST_T: u32 = 26_000;
-
-    pub const SMALLEST_H: u32 = 4_300;
-
-    pub const LARGEST_H: u32 = 90_000_000;
-
-    pub const SMALLEST_P: u32 = 1_000;
-
-    pub const LARGEST_P: u32 = 1_000_000;
-
-    // The settings, or the refusal of the first figure that lies outside its bounds: 1 for `t`, 2 for `h`, 3 for `p`.
-    pub fn new(t: u32, h: u32, p: u32) -> Checked
-        ensures { λ r. ⌜ toldChecked r ≡ checked t h p ⌝ }
-    {
-        if outside(t, Self::SMALLEST_T, Self::LARGEST_T) {
-            return Checked::Refused(1);
-        }
-        if outside(h, Self::SMALLEST_H, Self::LARGEST_H) {
-            return Checked::Refused(2);
-        }
-        if outside(p, Self::SMALLEST_P, Self::LARGEST_P) {
-            return Checked::Refused(3);
-        }
-        Checked::Taken(Settings { t, h, p })
-    }
-
-    // Whether a figure lies outside its bounds, as only settings made by hand can have it.
-    pub fn is_outside(self) -> bool
-        ensures { λ r. ⌜ r ≡ settingsOutside self ⌝ }
-    {
-        if outside(self.t, Self::SMALLEST_T, Self::LARGEST_T) {
-            return true;
-        }
-        if outside(self.h, Self::SMALLEST_H, Self::LARGEST_H) {
-            return true;
-        }
-        outside(self.p, Self::SMALLEST_P, Self::LARGEST_P)
-    }
 }
 
 impl Load {
@@ -129,13 +72,4 @@ impl Load {
         }
         image::is_bad_length(self.length)
     }
-}
-
-fn outside(x: u32, smallest: u32, largest: u32) -> bool
-    ensures { λ r. ⌜ r ≡ outside smallest largest x ⌝ }
-{
-    if x < smallest {
-        return true;
-    }
-    largest < x
 }

@@ -8,7 +8,7 @@ use native.Mathlib.Omega.{arith}
 use lib.ListN.{length, getD, take}
 use Rattle.terms.specs.Choice.{when}
 use Rattle.lent.specs.Bytes.{total}
-use Rattle.load.specs.declared.Settings.{Settings}
+use Rattle.settings.specs.declared.Settings.{Settings}
 use Rattle.host.specs.Time.{low, spacer}
 use Rattle.sessions.specs.Legs.{edge}
 use Rattle.sessions.specs.Sessions.{ones, zeros}

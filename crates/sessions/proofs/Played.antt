@@ -15,7 +15,7 @@ use Rattle.terms.specs.Refusals.{Answer, refused, taken}
 use Rattle.terms.proofs.Refusals.{clear-taken}
 use Rattle.terms.proofs.Tests.{when-true, when-false}
 use Rattle.load.specs.declared.Load.{Load}
-use Rattle.load.specs.declared.Settings.{Settings}
+use Rattle.settings.specs.declared.Settings.{Settings}
 use Rattle.units.specs.declared.Seen.{Seen}
 use Rattle.units.specs.declared.Ticks.{Ticks}
 use Rattle.bits.specs.Bits.{sentBit}

@@ -11,7 +11,7 @@ use Rattle.terms.proofs.Tests.{when-elim}
 use Rattle.lent.specs.Bytes.{total}
 use Rattle.load.specs.Load.{loadOf}
 use Rattle.load.specs.declared.Load.{Load}
-use Rattle.load.specs.declared.Settings.{Settings}
+use Rattle.settings.specs.declared.Settings.{Settings}
 use Rattle.load.proofs.Within.{load-within}
 use Rattle.units.specs.declared.Seen.{Seen}
 use Rattle.session.specs.Step.{otherImage}

@@ -4,7 +4,7 @@ use mathlib.Core.List.{List, [], _∷_}
 use Prim.Native.Nat.{ℕ}
 use lib.ListN.{take}
 use Rattle.lent.specs.Bytes.{total}
-use Rattle.load.specs.declared.Settings.{Settings}
+use Rattle.settings.specs.declared.Settings.{Settings}
 use Rattle.host.specs.Time.{low, spacer}
 use Rattle.sessions.specs.Spelled.{Mark}
 

@@ -8,7 +8,7 @@ use lib.ListN.{length, getD, take}
 use Rattle.terms.specs.Choice.{when}
 use Rattle.terms.specs.Refusals.{refused, taken}
 use Rattle.lent.specs.Bytes.{total}
-use Rattle.load.specs.declared.Settings.{Settings}
+use Rattle.settings.specs.declared.Settings.{Settings}
 use Rattle.units.specs.declared.Seen.{Seen}
 use Rattle.place.specs.Phases.{ended}
 use Rattle.place.specs.declared.Phase.the-variants.{Ended}

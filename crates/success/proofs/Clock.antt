@@ -9,8 +9,8 @@ use lib.Dec.{eqb}
 use Rattle.terms.specs.Choice.{when}
 use Rattle.terms.proofs.Tests.{when-elim, either-false, less-false}
 use Rattle.load.specs.declared.Load.{Load}
-use Rattle.load.specs.declared.Settings.{Settings}
-use Rattle.load.proofs.Facts.{Fit}
+use Rattle.settings.specs.declared.Settings.{Settings}
+use Rattle.settings.proofs.Exactly.{Fit}
 use Rattle.bits.specs.Bits.{sentBit}
 use Rattle.host.specs.Time.{low, spacer}
 use Rattle.host.proofs.Legs.{low-most, spacer-most}

@@ -13,7 +13,7 @@ use Rattle.units.specs.Units.{most, loopsIn}
 use Rattle.units.proofs.Conversions.{some-length}
 use Rattle.lent.specs.Bytes.{wordAt, total}
 use Rattle.load.specs.Image.{badLength, otherLength, otherStart, badStack, otherSum}
-use Rattle.load.specs.Settings.{outside}
+use Rattle.settings.specs.Settings.{outside}
 use Rattle.place.specs.Phases.{ended}
 use Rattle.host.specs.Step.{hostStart}
 use Rattle.host.specs.declared.Host.{Host}

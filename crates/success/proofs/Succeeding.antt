@@ -12,8 +12,9 @@ use Rattle.terms.specs.Choice.{when}
 use Rattle.terms.proofs.Refusals.{taken-exactly}
 use Rattle.load.specs.Load.{loadOf}
 use Rattle.load.specs.declared.Load.{Load}
-use Rattle.load.specs.declared.Settings.{Settings}
-use Rattle.load.proofs.Facts.{Fit, Known}
+use Rattle.settings.specs.declared.Settings.{Settings}
+use Rattle.settings.proofs.Exactly.{Fit}
+use Rattle.load.proofs.Facts.{Known}
 use Rattle.session.specs.Step as session
 use Rattle.host.specs.Step as hosts
 use Rattle.host.specs.declared.Host.{Host}

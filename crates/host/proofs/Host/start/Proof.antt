@@ -3,7 +3,7 @@
 use denote.Ref.{now}
 use mathlib.Core.Path.{_≡_, sym, ap, _∙_}
 use Rattle.terms.specs.Refusals.{taken}
-use Rattle.load.specs.Settings.{checked, toldChecked}
+use Rattle.settings.specs.Settings.{checked, toldChecked}
 use Rattle.session.specs.Step.{toldStarted}
 use Rattle.host.proofs.Starts.{settings-refuse, session-refuses, both-take}
 use borrow.Author.Needs.{needs}

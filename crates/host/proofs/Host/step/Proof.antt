@@ -7,7 +7,7 @@ use native.Mathlib.Omega.{arith}
 use denote.Ref.{now}
 use Rattle.terms.specs.Refusals.{taken}
 use Rattle.terms.proofs.Refusals.{answered}
-use Rattle.load.proofs.Facts.{Fit}
+use Rattle.settings.proofs.Exactly.{Fit}
 use Rattle.session.specs.Step.{sessionStep, toldStepped}
 use Rattle.session.specs.declared.Pulse.{Pulse}
 use Rattle.host.specs.Step.{hostOutside}

@@ -1,10 +1,10 @@
 -- `Settings::is_outside` tests each figure as `Settings::new` does.
 -- Assumes nothing.
 use Rattle.terms.proofs.Refusals.{walk}
-use Rattle.load.specs.Settings.{settingsOutside}
+use Rattle.settings.specs.Settings.{settingsOutside}
 use borrow.Author.Needs.{needs}
-use Rattle.load.proofs.Settings.is_outside.Statement.{statement}
-use Rattle.load.proofs.Settings.is_outside.Tie as tie
+use Rattle.settings.proofs.Settings.is_outside.Statement.{statement}
+use Rattle.settings.proofs.Settings.is_outside.Tie as tie
 
 outside-requires : tie.Need-outside-requires
 outside-requires c κs = search needs

@@ -1,10 +1,10 @@
 -- `Settings::new` checks the rows 1 to 3 in their order.
 -- Assumes nothing.
 use Rattle.terms.proofs.Refusals.{walk}
-use Rattle.load.specs.Settings.{checked}
+use Rattle.settings.specs.Settings.{checked}
 use borrow.Author.Needs.{needs}
-use Rattle.load.proofs.Settings.new.Statement.{statement}
-use Rattle.load.proofs.Settings.new.Tie as tie
+use Rattle.settings.proofs.Settings.new.Statement.{statement}
+use Rattle.settings.proofs.Settings.new.Tie as tie
 
 outside-requires : tie.Need-outside-requires
 outside-requires c κs = search needs

@@ -6,9 +6,9 @@ use Prim.Native.Nat.{ℕ}
 use lib.Dec.{ltb}
 use Rattle.terms.specs.Choice.{either}
 use Rattle.terms.specs.Refusals.{Row, Answer, refused, taken, _given-when_, first}
-use Rattle.load.specs.declared.Checked.{Checked}
-use Rattle.load.specs.declared.Checked.the-variants.{Refused, Taken}
-use Rattle.load.specs.declared.Settings.{Settings}
+use Rattle.settings.specs.declared.Checked.{Checked}
+use Rattle.settings.specs.declared.Checked.the-variants.{Refused, Taken}
+use Rattle.settings.specs.declared.Settings.{Settings}
 
 -- Below the smallest, or above the largest.
 unfoldable pub outside : ℕ → ℕ → ℕ → Bool
