@@ -1,4 +1,4 @@
-// The image of the longest session: the words that it tells of itself, and a first byte that makes the sum 20.
+// The longest image, as the crate `image` makes it: the words that it tells of itself, and a first byte that makes the sum 20.
 pub fn longest() -> [u8; 32_760] {
     let mut image = [0u8; 32_760];
     for i in 16..image.len() {

@@ -15,7 +15,7 @@ use units::Seen;
 // The longest pulse with its spacer, in ps.
 const LEG: u64 = 90_052_000_000;
 
-const SETTINGS: Settings = Settings {
+pub(crate) const SETTINGS: Settings = Settings {
     t: 8_600,
     h: 8_600,
     p: 700_000,
@@ -158,8 +158,8 @@ fn lent(t: u32, length: u32) {
     number(b" lent ", length as u64);
     let settings = Settings {
         t,
-        h: 8_600,
-        p: 700_000,
+        h: SETTINGS.h,
+        p: SETTINGS.p,
     };
     step(settings, fresh(LOAD), 0, length);
 }

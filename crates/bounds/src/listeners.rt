@@ -36,28 +36,16 @@ fn faults() {
 
 fn accepts(pages: u32) {
     number(b"pages ", pages as u64);
-    chips::lent(
-        Fault::Accepts(pages),
-        12,
-        0,
-        0,
-        Phase::First,
-        32_768,
-        32_768,
-    );
+    faulty(Fault::Accepts(pages));
 }
 
 fn reads(at: u32) {
     number(b"at ", at as u64);
-    chips::lent(
-        Fault::Reads(255, Bytes(at as usize)),
-        12,
-        0,
-        0,
-        Phase::First,
-        32_768,
-        32_768,
-    );
+    faulty(Fault::Reads(255, Bytes(at as usize)));
+}
+
+fn faulty(fault: Fault) {
+    chips::lent(fault, 12, 0, 0, Phase::First, 32_768, 32_768);
 }
 
 fn fields() {

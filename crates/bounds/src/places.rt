@@ -8,7 +8,6 @@ use place::Ending;
 use place::Phase;
 use place::Place;
 use session::Session;
-use settings::Settings;
 use units::Bytes;
 
 pub(crate) fn all() {
@@ -120,10 +119,5 @@ fn at(phase: Phase, command: u32, length: u32, index: u32, pulses: u32) {
         ones: 0,
         zeros: pulses,
     };
-    let settings = Settings {
-        t: 8_600,
-        h: 8_600,
-        p: 700_000,
-    };
-    hosts::step(settings, session, 0, length);
+    hosts::step(hosts::SETTINGS, session, 0, length);
 }

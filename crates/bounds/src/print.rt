@@ -25,21 +25,7 @@ pub(crate) fn taken(reply: Seen) {
 
 // The plain sums of both memories.
 pub(crate) fn sums(ram: &[u8], eeprom: &[u8]) {
-    number(b" ram ", total(ram));
-    number(b" eeprom ", total(eeprom));
+    number(b" ram ", lent::total(ram));
+    number(b" eeprom ", lent::total(eeprom));
     say(b"\n");
-}
-
-fn total(bytes: &[u8]) -> u64 {
-    let mut sum = 0;
-    let mut at = 0;
-    while at < bytes.len() {
-        sum = std::num::wrapping_add_u64(sum, wide(bytes[at]));
-        at += 1;
-    }
-    sum
-}
-
-fn wide(byte: u8) -> u64 {
-    byte as u64
 }

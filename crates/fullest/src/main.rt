@@ -1,4 +1,4 @@
-// Plays the longest load that command 3 has, an image of 32,760 bytes, to a chip whose EEPROM has no fault, and prints what came of it.
+// Plays the longest load that command 3 has, the longest image, to a chip whose EEPROM has no fault, and prints what came of it.
 // bench/chip.rs is the same program in Rust.
 use chip::Chip;
 use chip::Played;
@@ -9,8 +9,6 @@ use phases::Ending;
 use phases::Phase;
 use units::Loops;
 use units::Seen;
-
-const LENGTH: usize = 32_760;
 
 // Its pulses, with each acknowledgement at the second pair.
 const PULSES: u32 = 262_924;
@@ -45,8 +43,7 @@ struct Progress {
 }
 
 fn main() {
-    let mut image = [0u8; 32_760];
-    fill(&mut image);
+    let image = image::longest();
     let mut ram = [0u8; 32_768];
     let mut eeprom = [0u8; 32_768];
     play(&image, &mut ram, &mut eeprom);
@@ -199,24 +196,6 @@ fn early_bit(n: u32) -> bool {
         return SIZE >> (n - SIZE_AT) & 1 == 1;
     }
     false
-}
-
-// An image that a host takes: the words that it tells of itself, and a first byte that makes the sum 20.
-fn fill(image: &mut [u8; 32_760]) {
-    count_up(image);
-    image[6] = 16;
-    image[8] = (LENGTH % 256) as u8;
-    image[9] = (LENGTH / 256) as u8;
-    image[11] = 128;
-    image[0] = std::num::wrapping_sub_u8(20, lent::sum(image));
-}
-
-fn count_up(image: &mut [u8; 32_760]) {
-    let mut i = 16;
-    while i < LENGTH {
-        image[i] = (i % 251) as u8;
-        i += 1;
-    }
 }
 
 fn line(name: &[u8], n: u64) {

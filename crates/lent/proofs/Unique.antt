@@ -4,6 +4,8 @@ use mathlib.Core.Path.{sym, _∙_}
 use Rattle.terms.proofs.Answers.{OneAnswer}
 use Rattle.lent.proofs.sum.Kinds as sum-kinds
 use Rattle.lent.proofs.sum.Reads as sum
+use Rattle.lent.proofs.total.Kinds as total-kinds
+use Rattle.lent.proofs.total.Reads as total
 use Rattle.lent.proofs.word.Kinds as word-kinds
 use Rattle.lent.proofs.word.Reads as word
 
@@ -12,3 +14,6 @@ word-one κs a r₁ r₂ e₁ e₂ p q = p ∙ sym q
 
 pub sum-one : OneAnswer sum-kinds.ps sum-kinds.r sum.Post
 sum-one κs a r₁ r₂ e₁ e₂ p q = p ∙ sym q
+
+pub total-one : OneAnswer total-kinds.ps total-kinds.r total.Post
+total-one κs a r₁ r₂ e₁ e₂ p q = p ∙ sym q

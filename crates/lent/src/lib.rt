@@ -1,6 +1,6 @@
-// What is read off lent bytes, whether of an image or of a memory: a word at a place, and the sum.
+// What is read off lent bytes, whether of an image or of a memory: a word at a place, the total, and the sum of one byte.
 ghost use mathlib.Core.Path.{_≡_};
-ghost use Prim.Native.Nat.{_%_};
+ghost use Prim.Native.Nat.{_%_, _^_};
 ghost use lib.ListN.{getD};
 ghost use Rattle.lent.specs.Bytes.{wordAt, total};
 use units::Bytes;
@@ -29,6 +29,19 @@ pub fn sum(bytes: &[u8]) -> u8
         at += 1;
     }
     sum
+}
+
+// The sum of all bytes, modulo 2^64.
+pub fn total(bytes: &[u8]) -> u64
+    ensures { λ r. ⌜ r ≡ total (now (bytes .entry)) % 2 ^ 64 ⌝ }
+{
+    let mut total = 0;
+    let mut at = 0;
+    while at < bytes.len() {
+        total = std::num::wrapping_add_u64(total, bytes[at] as u64);
+        at += 1;
+    }
+    total
 }
 
 // The byte at `at`, or 0 past the end.

@@ -1,15 +1,12 @@
-// Plans the longest session that command 1 has, an image of 32,760 bytes, against the replies of a good chip, and prints what was sent.
+// Plans the longest session that command 1 has, of the longest image, against the replies of a good chip, and prints what was sent.
 // bench/host.rs is the same program in Rust.
 use host::Begun;
 use host::Host;
 use host::Planned;
-use load::Load;
 use place::Phase;
 use place::Place;
 use units::Seen;
 use units::Ticks;
-
-const LENGTH: usize = Load::LARGEST_LENGTH.0;
 
 // Its pulses, with a RAM acknowledgement at the second pair.
 const PULSES: u32 = 262_916;
@@ -22,8 +19,7 @@ struct Progress {
 }
 
 fn main() {
-    let mut image = [0u8; 32_760];
-    fill(&mut image);
+    let image = image::longest();
     plan(&image);
 }
 
@@ -113,24 +109,6 @@ fn seen(bit: bool) -> Seen {
 // The chip aligns on the first pair and answers the next.
 fn acknowledged(index: u32) -> Seen {
     if index < 2 { Seen::Silence } else { Seen::Zero }
-}
-
-// An image that a start takes: the words that it tells of itself, and a first byte that makes the sum 20.
-fn fill(image: &mut [u8; 32_760]) {
-    count_up(image);
-    image[6] = 16;
-    image[8] = (LENGTH % 256) as u8;
-    image[9] = (LENGTH / 256) as u8;
-    image[11] = 128;
-    image[0] = std::num::wrapping_sub_u8(20, lent::sum(image));
-}
-
-fn count_up(image: &mut [u8; 32_760]) {
-    let mut i = 16;
-    while i < LENGTH {
-        image[i] = (i % 251) as u8;
-        i += 1;
-    }
 }
 
 fn line(name: &[u8], n: u64) {

@@ -20,7 +20,6 @@ pub(crate) fn time_out(command: u32, fault: Fault, pulse: u32) {
 }
 
 fn changed(command: u32, fault: Fault, pulse: u32, wait: u32, low: u32) {
-    let image = S;
     print::case(command, fault);
     print::number(b" pulse ", pulse);
     print::number(b" wait ", wait);
@@ -30,16 +29,15 @@ fn changed(command: u32, fault: Fault, pulse: u32, wait: u32, low: u32) {
         wait: Loops(wait),
         low: Loops(low),
     });
-    line(command, fault, &image, change);
+    line(command, fault, &S, change);
 }
 
 // S by command 1, with silence, 0 or 1 seen around one pulse, whatever the chip replies.
 pub(crate) fn answered(pulse: u32, seen: Seen) {
-    let image = S;
     print::case(1, Fault::None);
     print::number(b" pulse ", pulse);
     print::seen(seen);
-    line(1, Fault::None, &image, Change::Reply(pulse, seen));
+    line(1, Fault::None, &S, Change::Reply(pulse, seen));
 }
 
 // S by command 1 at the start, and at the steps S with two other bytes.
@@ -53,7 +51,7 @@ pub(crate) fn sent(first: u8, seventh: u8) {
 }
 
 fn line(command: u32, fault: Fault, image: &[u8], change: Change) {
-    let mut ram = [1u8; 32_768];
-    let mut eeprom = sample::memory();
+    let mut ram = sample::ram();
+    let mut eeprom = sample::eeprom();
     stepped::start(command, fault, image, change, &mut ram, &mut eeprom);
 }

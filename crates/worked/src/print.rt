@@ -11,8 +11,12 @@ pub(crate) fn say(words: &[u8]) {
 }
 
 pub(crate) fn number(word: &[u8], n: u32) {
+    long(word, n as u64);
+}
+
+fn long(word: &[u8], n: u64) {
     say(word);
-    io::print_decimal(1, n as u64);
+    io::print_decimal(1, n);
 }
 
 // The command and the EEPROM's fault.
@@ -23,8 +27,7 @@ pub(crate) fn case(command: u32, fault: Fault) {
         Fault::Accepts(pages) => number(b" accepts ", pages),
         Fault::Reads(value, at) => {
             number(b" reads ", value as u32);
-            say(b" at ");
-            io::print_decimal(1, at.0 as u64);
+            long(b" at ", at.0 as u64);
         }
     }
 }
@@ -50,22 +53,32 @@ pub(crate) fn ran(ran: Ran) {
 }
 
 fn finished(report: Report) {
-    number(b": pulses ", report.pulses);
+    pulses(report.pulses);
     number(b" ones ", report.ones);
     number(b" zeros ", report.zeros);
-    say(b" ticks ");
-    io::print_decimal(1, report.ticks.0);
-    let host = report.host;
-    number(b" host ", host.number() as u32);
-    let chip = report.chip;
-    if let ChipEnd::Ended(end) = chip {
-        ending(end);
-    } else {
-        say(b" chip listening");
+    long(b" ticks ", report.ticks.0);
+    let end = report.host;
+    host(end);
+    let end = report.chip;
+    chip(end);
+}
+
+pub(crate) fn pulses(n: u32) {
+    number(b": pulses ", n);
+}
+
+pub(crate) fn host(end: place::Ending) {
+    number(b" host ", end.number() as u32);
+}
+
+pub(crate) fn chip(end: ChipEnd) {
+    match end {
+        ChipEnd::Listening => say(b" chip listening"),
+        ChipEnd::Ended(ending) => ended(ending),
     }
 }
 
-pub(crate) fn ending(ending: Ending) {
+fn ended(ending: Ending) {
     match ending {
         Ending::Launched => say(b" chip launched"),
         Ending::Booted => say(b" chip booted"),
@@ -76,21 +89,7 @@ pub(crate) fn ending(ending: Ending) {
 
 // The plain sums of both memories.
 pub(crate) fn sums(ram: &[u8], eeprom: &[u8]) {
-    number(b" ram ", total(ram));
-    number(b" eeprom ", total(eeprom));
+    long(b" ram ", lent::total(ram));
+    long(b" eeprom ", lent::total(eeprom));
     say(b"\n");
-}
-
-fn total(bytes: &[u8]) -> u32 {
-    let mut sum = 0;
-    let mut at = 0;
-    while at < bytes.len() {
-        sum = std::num::wrapping_add_u32(sum, wide(bytes[at]));
-        at += 1;
-    }
-    sum
-}
-
-fn wide(byte: u8) -> u32 {
-    byte as u32
 }

@@ -1,29 +1,24 @@
 // Whole runs, with the figures of 01's program where a case has no others.
 use crate::print;
 use crate::sample;
+use crate::sample::H;
+use crate::sample::L;
+use crate::sample::P;
 use crate::sample::S;
+use crate::sample::T;
 use eeprom::Fault;
-
-const T: u32 = 8_600;
-
-const H: u32 = 8_600;
-
-const P: u32 = 700_000;
-
-const L: u32 = 400_000;
 
 // S by command 1, with settings of its own.
 pub(crate) fn settings(t: u32, h: u32, p: u32) {
-    let image = S;
     print::number(b"t ", t);
     print::number(b" h ", h);
     print::number(b" p ", p);
-    line(t, h, p, 1, &image, Fault::None);
+    line(t, h, p, 1, &S, Fault::None);
 }
 
-// The first bytes of a memory that holds S.
+// The first bytes of an EEPROM that holds S.
 pub(crate) fn length(command: u32, length: u32) {
-    let image = sample::memory();
+    let image = sample::eeprom();
     let end = length as usize;
     if end <= 32_768 {
         print::number(b"command ", command);
@@ -45,9 +40,8 @@ pub(crate) fn byte(at: u32, value: u8) {
 
 // S by command 1, over memories of which only the first bytes are lent.
 pub(crate) fn memories(ram: u32, eeprom: u32) {
-    let image = S;
-    let mut first = [1u8; 32_768];
-    let mut second = sample::memory();
+    let mut first = sample::ram();
+    let mut second = sample::eeprom();
     let a = ram as usize;
     let b = eeprom as usize;
     print::number(b"ram of ", ram);
@@ -59,7 +53,7 @@ pub(crate) fn memories(ram: u32, eeprom: u32) {
                 H,
                 P,
                 1,
-                &image,
+                &S,
                 Fault::None,
                 &mut first[0..a],
                 &mut second[0..b],
@@ -70,14 +64,13 @@ pub(crate) fn memories(ram: u32, eeprom: u32) {
 
 // S by a command, over an EEPROM with a fault.
 pub(crate) fn run(command: u32, fault: Fault) {
-    let image = S;
     print::case(command, fault);
-    line(T, H, P, command, &image, fault);
+    line(T, H, P, command, &S, fault);
 }
 
 fn line(t: u32, h: u32, p: u32, command: u32, image: &[u8], fault: Fault) {
-    let mut ram = [1u8; 32_768];
-    let mut eeprom = sample::memory();
+    let mut ram = sample::ram();
+    let mut eeprom = sample::eeprom();
     lent(t, h, p, command, image, fault, &mut ram, &mut eeprom);
 }
 

@@ -1,6 +1,9 @@
 // Host and chip stepped side by side, with one pulse changed on its way to the chip, or one reply on its way back.
 use crate::print;
+use crate::sample::H;
+use crate::sample::P;
 use crate::sample::S;
+use crate::sample::T;
 use chip::Chip;
 use chip::Played;
 use chip::Stepped;
@@ -8,6 +11,7 @@ use eeprom::Fault;
 use host::Begun;
 use host::Host;
 use host::Planned;
+use joined::ChipEnd;
 use listener::Listener;
 use phases::Phase;
 use units::Loops;
@@ -46,8 +50,7 @@ pub(crate) fn start(
     ram: &mut [u8; 32_768],
     eeprom: &mut [u8; 32_768],
 ) {
-    let s = S;
-    match Host::start(8_600, 8_600, 700_000, command, &s) {
+    match Host::start(T, H, P, command, &S) {
         Begun::Refused(n) => print::refused(n),
         Begun::Taken(host) => {
             let chip = Chip {
@@ -75,7 +78,8 @@ fn play(
             break;
         }
         let next = sent(host, image, reply);
-        let played = heard(chip, measured(host, next, change), ram, eeprom);
+        let pulse = measured(plain(host, next), change);
+        let played = heard(chip, pulse, ram, eeprom);
         host = next;
         chip = played.chip;
         let given = played.reply;
@@ -100,35 +104,31 @@ fn sent(host: Host, image: &[u8], seen: Seen) -> Host {
     }
 }
 
-// The pulse that brings the host from one record to the next, as the chip measures it.
-fn measured(host: Host, next: Host, change: Change) -> Pulse {
+// A pulse as the chip measures it.
+fn measured(plain: Pulse, change: Change) -> Pulse {
     match change {
-        Change::Nothing => plain(host, next),
+        Change::Nothing => plain,
         Change::Pulse(pulse) => {
-            if pulse.number == next.session.pulses {
+            if pulse.number == plain.number {
                 return pulse;
             }
-            plain(host, next)
+            plain
         }
-        Change::Reply(_, _) => plain(host, next),
+        Change::Reply(_, _) => plain,
     }
 }
 
+// The pulse that brings the host from one record to the next.
 fn plain(host: Host, next: Host) -> Pulse {
-    let before = host.session;
-    let after = next.session;
-    if after.ones == before.ones {
-        return Pulse {
-            number: after.pulses,
-            wait: WAIT,
-            low: ZERO,
-        };
-    }
     Pulse {
-        number: after.pulses,
+        number: next.session.pulses,
         wait: WAIT,
-        low: ONE,
+        low: low(host.session.ones == next.session.ones),
     }
+}
+
+fn low(is_zero: bool) -> Loops {
+    if is_zero { ZERO } else { ONE }
 }
 
 // What the host sees around its last pulse.
@@ -160,11 +160,11 @@ fn heard(chip: Chip, pulse: Pulse, ram: &mut [u8], eeprom: &mut [u8]) -> Played 
 
 fn print_host(host: Host) {
     let session = host.session;
-    print::number(b": pulses ", session.pulses);
+    print::pulses(session.pulses);
     let place = session.place;
     let phase = place.phase;
     if let place::Phase::Ended(end) = phase {
-        print::number(b" host ", end.number() as u32);
+        print::host(end);
     }
 }
 
@@ -172,8 +172,8 @@ fn print_chip(chip: Chip) {
     let listener = chip.listener;
     let phase = listener.phase;
     if let Phase::Ended(end) = phase {
-        print::ending(end);
+        print::chip(ChipEnd::Ended(end));
     } else {
-        print::say(b" chip listening");
+        print::chip(ChipEnd::Listening);
     }
 }

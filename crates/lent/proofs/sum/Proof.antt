@@ -1,23 +1,21 @@
--- `lent::sum` adds byte after byte: what is added and what is to come always give the whole sum, modulo 256.
+-- `lent::sum` adds byte after byte, modulo 256.
 -- Assumes nothing.
-use mathlib.Core.Path.{_≡_}
-use Prim.Native.Nat.{_+_, _-_, _%_, _≤_, _<_}
+use Prim.Native.Nat.{_-_}
 use native.Mathlib.Omega.{arith}
-use lib.ListN.{length, getD, drop}
+use lib.ListN.{length}
 use borrow.Author.Needs.{needs}
-use Rattle.lent.specs.Bytes.{total}
-use Rattle.lent.proofs.Totals.{total-drop, total-past}
+use Rattle.lent.proofs.Totals.{Added, added-none, added-one, added-all}
 use Rattle.lent.proofs.sum.Statement.{statement}
 use Rattle.lent.proofs.sum.Tie as tie
 
 abbrev Inv-loop : tie.InvT-loop
-Inv-loop bytes sum₀ at₀ sum at = (at ≤ length bytes) × (sum < 256) × ((sum + total (drop at bytes)) % 256 ≡ total bytes % 256)
+Inv-loop bytes sum₀ at₀ sum at = Added 256 bytes at sum
 
 abbrev μ-loop : tie.MeasureT-loop
 μ-loop bytes sum₀ at₀ sum at = length bytes - at
 
 loop-holds : tie.Need-loop-holds Inv-loop μ-loop
-loop-holds c = omega arith
+loop-holds c = added-none 256 (c .before .args .bytes .now)
 
 shared-slice-read-wrapping-add-u8 : tie.Need-shared-slice-read-wrapping-add-u8 Inv-loop μ-loop
 shared-slice-read-wrapping-add-u8 c = search needs
@@ -35,16 +33,12 @@ loop-again : tie.Need-loop-again Inv-loop μ-loop
 loop-again c =
     let here = c .before .before .before in
     let bytes = here .before .before .args .bytes .now in
-    let rest : total (drop (here .loop .at) bytes) ≡ getD bytes (here .loop .at) 0 + total (drop (here .loop .at + 1) bytes) =
-    total-drop bytes (here .loop .at) (omega arith) in
-    omega (arith, c .wrapping-add-u8 .ensures)
+    added-one 256 bytes (here .loop .at) (here .loop .sum) (here .loop .inv) (c .wrapping-add-u8 .result) (c .before .before .loop-test .taken) (c .wrapping-add-u8 .ensures)
 
 returns : tie.Need-returns Inv-loop μ-loop
 returns c =
     let here = c .before in
-    let bytes = here .before .before .args .bytes .now in
-    let none : total (drop (here .loop .at) bytes) ≡ 0 = total-past bytes (here .loop .at) (c .loop-test .left) in
-    omega arith
+    added-all 256 (here .before .before .args .bytes .now) (here .loop .at) (here .loop .sum) (here .loop .inv) (c .loop-test .left)
 
 pub sum-spec : {M : Type 1} → statement M
 sum-spec =

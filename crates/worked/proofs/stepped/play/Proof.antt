@@ -21,6 +21,9 @@ has-ended-requires c κs = search needs
 sent-requires : tie.Need-sent-requires Inv-loop μ-loop
 sent-requires c κs = search needs
 
+plain-requires : tie.Need-plain-requires Inv-loop μ-loop
+plain-requires c κs = search needs
+
 measured-requires : tie.Need-measured-requires Inv-loop μ-loop
 measured-requires c κs = search needs
 
@@ -57,6 +60,7 @@ play-spec =
     loop-holds
     has-ended-requires
     sent-requires
+    plain-requires
     measured-requires
     heard-requires
     seen-requires
