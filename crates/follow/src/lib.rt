@@ -9,8 +9,7 @@ use place::Phase;
 use place::Place;
 use units::Seen;
 
-// The place after the pulse at this one. `seen` is what was seen around the pulse before it, and counts only where this is the
-// second pulse of a pair.
+// The place after the pulse at `place`. What was seen around the pulse before it, `seen`, counts only where this one is a pair's second.
 pub fn next(place: Place, load: Load, seen: Seen) -> Place
     ensures { λ r. ⌜ r ≡ next load (place .phase) (place .index) seen ⌝ }
 {

@@ -2,7 +2,8 @@
 ghost use mathlib.Core.Path.{_≡_};
 ghost use Rattle.settings.specs.Settings.{checked, outside, settingsOutside, toldChecked};
 
-// The figures of a bench: the unit time `t` and the spacer `h` in ns, the tick `p` in ps.
+// The figures of a bench: the unit time `t` and the spacer `h` in ns, the tick `p` in ps. With a real chip keep `h` at least `t`: see
+// docs/LIMITS.md.
 pub struct Settings {
     pub t: u32,
     pub h: u32,
