@@ -18,16 +18,11 @@ use Rattle.chip.proofs.Within.{Within, listener-within}
 use Rattle.eeprom.specs.Eeprom.{faultOutside, after}
 use Rattle.eeprom.specs.declared.Fault.{Fault}
 use Rattle.eeprom.specs.declared.Fault.the-variants.{None, Accepts, Reads}
+use Rattle.chip.specs.Reached.{Reached, started, stepped}
 use Rattle.chip.specs.Step.{Reply, left, fresh, startRows, chipStart, chipOutside, stepRows, chipStep}
 use Rattle.chip.specs.Work.{done}
 use Rattle.chip.specs.declared.Chip.{Chip}
 use Rattle.chip.proofs.Steps.{step-given, step-taken}
-
--- What a start and steps that weren't refused lead to, whatever is lent to each.
-pub data Reached : Chip → Type 0 where
-  started : (ram eeprom : List ℕ) (fault : Fault) (c : Chip) → chipStart ram eeprom fault ≡ taken c → Reached c
-  stepped : (c : Chip) (ram eeprom : List ℕ) (wait low : ℕ) (r : Reply) (ram′ eeprom′ : List ℕ) → Reached c
-      → chipStep c ram eeprom wait low ≡ left (taken r) ram′ eeprom′ → Reached (r .chip)
 
 pub record Kept (c : Chip) : Type 0 where
   pub sound : faultOutside (c .fault) ≡ false

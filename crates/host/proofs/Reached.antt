@@ -10,15 +10,11 @@ use Rattle.terms.proofs.Refusals.{refused-exactly}
 use Rattle.session.specs.Step.{pulseOf}
 use Rattle.session.proofs.Reached.{no-13}
 use Rattle.units.specs.declared.Seen.{Seen}
+use Rattle.host.specs.Reached.{Reached, started, stepped}
 use Rattle.host.specs.Step.{hostStart, hostRows, timed, hostStep}
 use Rattle.host.specs.declared.Host.{Host}
 use Rattle.host.specs.declared.Sent.{Sent}
 use Rattle.host.proofs.Kept.{Kept, start-keeps, step-keeps}
-
--- What a start and steps that weren't refused lead to.
-pub data Reached : Host → Type 0 where
-  started : (t h p command : ℕ) (image : List ℕ) (x : Host) → hostStart t h p command image ≡ taken x → Reached x
-  stepped : (x : Host) (image : List ℕ) (seen : Seen) (s : Sent) → Reached x → hostStep x image seen ≡ taken s → Reached (s .host)
 
 pub reached-kept : (x : Host) → Reached x → Kept x
 reached-kept x (started t h p command image _ e) = start-keeps t h p command image x e

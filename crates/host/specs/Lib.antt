@@ -1,2 +1,3 @@
+pub mod Reached
 pub mod Step
 pub mod Time

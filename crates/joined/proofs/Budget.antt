@@ -17,7 +17,7 @@ use Rattle.host.proofs.Kept.{start-keeps}
 use Rattle.host.proofs.Starts.{start-gives}
 use Rattle.session.proofs.Starts.{lent-again}
 use Rattle.chip.specs.Step.{startRows, chipStart}
-use Rattle.chip.proofs.Reached.{started}
+use Rattle.chip.specs.Reached.{started}
 use Rattle.chip.specs.declared.Chip.{Chip}
 use Rattle.eeprom.specs.declared.Fault.{Fault}
 use Rattle.joined.specs.Ends.{after, Unrefused, Ends}

@@ -24,7 +24,8 @@ use Rattle.ram.proofs.Stored.{stored-length, zeroed-length, flagged-length}
 use Rattle.eeprom.proofs.Memories.{programmed-length, booted-length}
 use Rattle.chip.specs.Work.{done}
 use Rattle.chip.specs.Step.{Left, chipStep, pulse}
-use Rattle.chip.proofs.Reached.{Reached, stepped, chip-kept, reached-kept}
+use Rattle.chip.specs.Reached.{Reached, stepped}
+use Rattle.chip.proofs.Reached.{chip-kept, reached-kept}
 use Rattle.chip.proofs.Steps.{step-played}
 use Rattle.joined.specs.Ends.{Unrefused}
 use Rattle.joined.specs.Joined.{State, Measuring, listened, sees, replied, met, sentTo, sent, pulsed, hostEnded}

@@ -4,9 +4,12 @@ ghost use mathlib.Core.Path.{_≡_};
 ghost use Rattle.listener.specs.Hears.{hears, settled};
 ghost use Rattle.listener.specs.Ranges.{listenerOutside};
 
+mod handshake;
 mod hearing;
 mod late;
+mod leading;
 mod replies;
+mod values;
 
 use phases::Phase;
 use units::Longs;

@@ -16,16 +16,16 @@ use Rattle.place.specs.Phases as place
 use Rattle.session.specs.Step.{sessionStart, sessionStep}
 use Rattle.session.specs.Step as session
 use Rattle.session.specs.declared.Session.{Session}
-use Rattle.session.proofs.Reached as session-reached
+use Rattle.session.specs.Reached as session-reached
 use Rattle.host.specs.Step.{hostStart, hostRows, hostStep}
 use Rattle.host.specs.declared.Host.{Host}
-use Rattle.host.proofs.Reached as host-reached
+use Rattle.host.specs.Reached as host-reached
 use Rattle.eeprom.specs.declared.Fault.{Fault}
 use Rattle.phases.specs.Phases as phases
 use Rattle.chip.specs.Step.{startRows, stepRows, chipStart, chipStep}
 use Rattle.chip.specs.Step as chip
 use Rattle.chip.specs.declared.Chip.{Chip}
-use Rattle.chip.proofs.Reached as chip-reached
+use Rattle.chip.specs.Reached as chip-reached
 use Rattle.joined.specs.Run.{runOf}
 use Rattle.joined.specs.Run as runs
 

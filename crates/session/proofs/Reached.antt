@@ -9,17 +9,12 @@ use native.Mathlib.Omega.{arith}
 use Rattle.terms.specs.Refusals.{refused, taken}
 use Rattle.terms.proofs.Refusals.{Given, refused-exactly}
 use Rattle.units.specs.declared.Seen.{Seen}
+use Rattle.session.specs.Reached.{Reached, started, stepped}
 use Rattle.session.specs.Step.{sessionStart, stepRows, pulseOf, sessionStep}
 use Rattle.session.specs.declared.Pulse.{Pulse}
 use Rattle.session.specs.declared.Session.{Session}
 use Rattle.session.proofs.Kept.{start-keeps, step-keeps}
 use Rattle.session.proofs.Within.{Within, session-within}
-
--- What a start and steps that weren't refused lead to.
-pub data Reached : Session → Type 0 where
-  started : (command : ℕ) (image : List ℕ) (s : Session) → sessionStart command image ≡ taken s → Reached s
-  stepped : (s : Session) (image : List ℕ) (seen : Seen) (p : Pulse) → Reached s → sessionStep s image seen ≡ taken p
-      → Reached (p .session)
 
 pub reached-within : (s : Session) → Reached s → Within s
 reached-within s (started command image _ e) = start-keeps command image s e

@@ -1,2 +1,3 @@
 pub mod Ranges
+pub mod Reached
 pub mod Step
