@@ -7,8 +7,8 @@ use mathlib.Core.Logic.{_↔_, inl, inr}
 use mathlib.Core.Path.{_≡_, sym, _∙_, subst}
 use Prim.Native.Nat.{ℕ, _-_, _≤_}
 use native.Mathlib.Omega.{arith}
-use Rattle.terms.specs.Refusals.{refused, taken}
-use Rattle.terms.proofs.Refusals.{Given, taken-exactly}
+use Rattle.terms.specs.Refusals.{refused, taken, Given}
+use Rattle.terms.proofs.Refusals.{taken-exactly}
 use Rattle.terms.proofs.Tests.{either-false, less-false}
 use Rattle.listener.specs.Hears.{hears}
 use Rattle.listener.specs.declared.Event.{Event}

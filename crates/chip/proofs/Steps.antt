@@ -4,13 +4,15 @@
 use mathlib.Core.List.{List}
 use mathlib.Core.Path.{_≡_, refl, sym, ap, _∙_}
 use Prim.Native.Nat.{ℕ}
-use native.Mathlib.Omega.{arith}
-use Rattle.terms.specs.Refusals.{Answer, refused, taken, first}
-use Rattle.terms.proofs.Refusals.{Given, Clear, refused-exactly, clear-taken, taken-exactly}
+use Rattle.terms.specs.Refusals.{Answer, refused, taken, first, Given}
+use Rattle.terms.proofs.Answers.{back}
+use Rattle.terms.proofs.Refusals.{Clear, not-both, refused-exactly, clear-taken, taken-exactly}
+use Rattle.units.specs.Line.{told}
+use Rattle.eeprom.specs.declared.Done.{Done}
 use Rattle.listener.specs.Hears.{hears}
 use Rattle.listener.specs.declared.Heard.{Heard}
-use Rattle.chip.specs.Step.{stepRows, Reply, Left, left, after, unlessRefused, pulse, chipStep}
-use Rattle.chip.specs.Work.{done}
+use Rattle.chip.specs.Step.{stepRows, Reply, Left, left, after, played, unlessRefused, pulse, chipStep}
+use Rattle.chip.specs.Work.{worked, done}
 use Rattle.chip.specs.declared.Chip.{Chip}
 
 module _ (c : Chip) (ram eeprom : List ℕ) (wait low : ℕ) where
@@ -24,15 +26,17 @@ module _ (c : Chip) (ram eeprom : List ℕ) (wait low : ℕ) where
   step-played p =
       ap (unlessRefused ram eeprom) (sym (clear-taken (pulse c ram eeprom (hears (c .listener) wait low)) (stepRows c ram eeprom) p))
 
--- The answer of a call that was taken.
-abbrev of : Reply → Answer Reply → Reply
-of r (refused n) = r
-of r (taken x) = x
-
--- A refusal as what a step left.
-abbrev of-left : Answer Reply → Answer Left
-of-left (refused n) = refused n
-of-left (taken x) = refused 0
+  -- The same, as the code plays it: the pulse is heard, its work done, and the record settled.
+  pub step-done : (h : Heard) (d : Done) (x : Chip) (ram′ eeprom′ : List ℕ)
+      → x ≡ after h (d .fault) (d .good) → worked d ram′ eeprom′ ≡ done (c .fault) (h .event) ram eeprom → h ≡ hears (c .listener) wait low
+      → taken (pulse c ram eeprom h) ≡ first (stepRows c ram eeprom) (pulse c ram eeprom h)
+      → left (taken (record { chip = x; reply = told (h .reply) })) ram′ eeprom′ ≡ chipStep c ram eeprom wait low
+  unfolding chipStep
+  step-done h d x ram′ eeprom′ settled work heard e =
+      ap (λ (y : Chip). left (taken (record { chip = y; reply = told (h .reply) })) ram′ eeprom′) settled
+      ∙ ap (played h) work
+      ∙ ap (unlessRefused ram eeprom) e
+      ∙ ap (λ (g : Heard). unlessRefused ram eeprom (first (stepRows c ram eeprom) (pulse c ram eeprom g))) heard
 
 -- What a step left that wasn't refused.
 pub record Stepping (c : Chip) (ram eeprom : List ℕ) (h : Heard) (r : Reply) (ram′ eeprom′ : List ℕ) : Type 0 where
@@ -44,16 +48,13 @@ pub record Stepping (c : Chip) (ram eeprom : List ℕ) (h : Heard) (r : Reply) (
 module _ (c : Chip) (ram eeprom : List ℕ) (h : Heard) where
   decided : (r : Reply) (ram′ eeprom′ : List ℕ) (a : Answer Left) → first (stepRows c ram eeprom) (pulse c ram eeprom h) ≡ a
       → unlessRefused ram eeprom a ≡ left (taken r) ram′ eeprom′ → Stepping c ram eeprom h r ram′ eeprom′
-  decided r ram′ eeprom′ (refused n) e q =
-      let p : refused n ≡ taken r = ap (λ (x : Left). x .answer) q in
-      let z : _≡_ {A = ℕ} 0 1 = cc in
-      absurd (omega arith)
+  decided r ram′ eeprom′ (refused n) e q = absurd (not-both (ap (λ (x : Left). x .answer) q))
   decided r ram′ eeprom′ (taken x) e q =
       let known = taken-exactly (pulse c ram eeprom h) x (stepRows c ram eeprom) .0 e in
       let same : left (taken r) ram′ eeprom′ ≡ pulse c ram eeprom h = sym q ∙ known .1 in
       record {
         passed = known .0;
-        chip-after = ap (λ (y : Left). of r (y .answer) .chip) same;
+        chip-after = ap (λ (y : Left). back (λ n. r) (λ x. x) (y .answer) .chip) same;
         ram-after = ap (λ (y : Left). y .ram) same;
         eeprom-after = ap (λ (y : Left). y .eeprom) same;
       }
@@ -61,12 +62,11 @@ module _ (c : Chip) (ram eeprom : List ℕ) (h : Heard) where
   -- A number is given for its row alone.
   numbered : (n : ℕ) (a : Answer Left) → first (stepRows c ram eeprom) (pulse c ram eeprom h) ≡ a
       → unlessRefused ram eeprom a .answer ≡ refused n → Given n (stepRows c ram eeprom)
-  numbered n (refused m) e q = refused-exactly (pulse c ram eeprom h) n (stepRows c ram eeprom) .0 (e ∙ ap of-left q)
+  numbered n (refused m) e q = refused-exactly (pulse c ram eeprom h) n (stepRows c ram eeprom) .0 (e ∙ ap (back refused (λ x. refused 0)) q)
   numbered n (taken x) e q =
       let known = taken-exactly (pulse c ram eeprom h) x (stepRows c ram eeprom) .0 e in
       let p : pulse c ram eeprom h .answer ≡ refused n = ap (λ (y : Left). y .answer) (sym (known .1)) ∙ q in
-      let z : _≡_ {A = ℕ} 0 1 = cc in
-      absurd (omega arith)
+      absurd (not-both (sym p))
 
 pub step-given : (c : Chip) (ram eeprom : List ℕ) (wait low n : ℕ) → chipStep c ram eeprom wait low .answer ≡ refused n
     → Given n (stepRows c ram eeprom)

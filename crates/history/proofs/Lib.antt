@@ -1,4 +1,5 @@
 pub mod Known
+pub mod Later
 pub mod Launched
 pub mod Next
 pub mod Spelling

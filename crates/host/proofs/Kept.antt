@@ -1,29 +1,25 @@
 -- A start hands out a host within its ranges, and each step keeps it there.
 -- Assumes nothing.
 use mathlib.Core.Bool.{false}
-use mathlib.Core.List.{List, _++_}
+use mathlib.Core.List.{List}
 use mathlib.Core.Path.{_≡_, refl, sym, subst}
 use Prim.Native.Nat.{ℕ, _+_, _*_, _≤_}
 use native.Mathlib.Omega.{arith}
 use borrow.Author.Tests.{le-ltb}
 use Rattle.terms.specs.Refusals.{taken}
-use Rattle.terms.proofs.Refusals.{clear-both, clear-taken, taken-exactly}
+use Rattle.terms.proofs.Refusals.{clear-taken, taken-exactly}
 use Rattle.terms.proofs.Tests.{either-false}
-use Rattle.load.specs.Load.{loadRows, loadOf}
-use Rattle.settings.specs.Settings.{settingsRows, checked}
-use Rattle.settings.specs.declared.Settings.{Settings}
-use Rattle.settings.proofs.Exactly.{settings-taken}
 use Rattle.settings.proofs.Exactly.{settings-within}
-use Rattle.session.specs.Step.{stepRows, pulseOf, sessionStart, sessionStep}
-use Rattle.session.specs.Step as session
+use Rattle.session.specs.Step.{stepRows, pulseOf, sessionStep}
 use Rattle.session.proofs.Kept as kept
 use Rattle.session.proofs.Within.{Within}
 use Rattle.units.specs.declared.Seen.{Seen}
-use Rattle.host.specs.Step.{fresh, hostStart, late, hostOutside, hostRows, timed, hostStep}
+use Rattle.host.specs.Step.{hostStart, late, hostOutside, hostRows, timed, hostStep}
 use Rattle.host.specs.Time.{low, spacer}
 use Rattle.host.specs.declared.Host.{Host}
 use Rattle.host.specs.declared.Sent.{Sent}
 use Rattle.host.proofs.Legs.{low-most, spacer-most, not-late}
+use Rattle.host.proofs.Starts.{start-gives}
 use Rattle.host.proofs.Steps.{fits, in-time}
 
 -- A host whose own fields and whose session lie within their ranges.
@@ -32,16 +28,12 @@ pub record Kept (h : Host) : Type 0 where
   pub within : Within (h .session)
 
 pub start-keeps : (t h p command : ℕ) (image : List ℕ) (x : Host) → hostStart t h p command image ≡ taken x → Kept x
-unfolding hostStart hostOutside late checked sessionStart
+unfolding hostOutside late
 start-keeps t h p command image x e =
-    let given : Settings = record { t = t; h = h; p = p } in
-    let whole = session.fresh (loadOf command image) in
-    let passed = taken-exactly (fresh given whole) x (settingsRows t h p ++ loadRows command image) .0 e in
-    let rows = clear-both (loadRows command image) (settingsRows t h p) (passed .0) in
-    let fit = settings-taken t h p given .0 (clear-taken given (settingsRows t h p) (rows .0)) .0 in
-    subst Kept (sym (passed .1)) (record {
-      own = either-false _ _ .1 (settings-within given .1 fit, refl);
-      within = kept.start-keeps command image whole (clear-taken whole (loadRows command image) (rows .1));
+    let gives = start-gives t h p command image x e in
+    subst Kept (sym (gives .0)) (record {
+      own = either-false _ _ .1 (settings-within (record { t = t; h = h; p = p }) .1 (gives .1), refl);
+      within = kept.fresh-keeps command image (gives .2);
     })
 
 pub step-keeps : (x : Host) (image : List ℕ) (seen : Seen) (s : Sent) → hostStep x image seen ≡ taken s → Kept (s .host)

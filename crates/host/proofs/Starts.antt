@@ -3,18 +3,21 @@
 use mathlib.Core.List.{List, _++_}
 use mathlib.Core.Path.{_≡_, sym, ap, _∙_}
 use Prim.Native.Nat.{ℕ}
-use Rattle.terms.specs.Refusals.{refused, taken}
+use Rattle.terms.specs.Refusals.{refused, taken, first}
 use Rattle.terms.proofs.Refusals.{refused-before, taken-before, refused-alike, taken-alike, clear-both, clear-taken, taken-exactly}
 use Rattle.load.specs.Load.{loadRows, loadOf, accepted}
-use Rattle.settings.specs.Settings.{settingsRows, checked}
+use Rattle.settings.specs.Settings.{settingsRows, checked, toldChecked}
+use Rattle.settings.specs.declared.Checked.{Checked}
+use Rattle.settings.specs.declared.Checked.the-variants as settings
 use Rattle.settings.specs.declared.Settings.{Settings}
-use Rattle.settings.proofs.Exactly.{settings-taken}
+use Rattle.settings.proofs.Exactly.{Fit, settings-taken}
 use Rattle.load.proofs.Exactly.{load-taken}
-use Rattle.settings.proofs.Exactly.{Fit}
 use Rattle.load.proofs.Facts.{Known}
-use Rattle.session.specs.Step.{sessionStart}
+use Rattle.session.specs.Step.{sessionStart, toldStarted}
 use Rattle.session.specs.Step as session
 use Rattle.session.specs.declared.Session.{Session}
+use Rattle.session.specs.declared.Started.{Started}
+use Rattle.session.specs.declared.Started.the-variants as started
 use Rattle.host.specs.Step.{fresh, hostStart}
 use Rattle.host.specs.declared.Host.{Host}
 
@@ -25,27 +28,33 @@ module _ (t h p command : ℕ) (image : List ℕ) where
   abbrev whole : Session
   whole = session.fresh (loadOf command image)
 
-  pub settings-refuse : (n : ℕ) → checked t h p ≡ refused n → hostStart t h p command image ≡ refused n
+  -- The settings refuse.
+  pub settings-refuse : (r : Checked) (n : ℕ) → r ≡ settings.Refused n → toldChecked r ≡ checked t h p
+      → refused n ≡ hostStart t h p command image
   unfolding checked hostStart
-  settings-refuse n e = refused-before (loadRows command image) given (fresh given whole) n (settingsRows t h p) e
+  settings-refuse r n e q =
+      sym (refused-before (loadRows command image) given (fresh given whole) n (settingsRows t h p) (sym q ∙ ap toldChecked e))
 
-  pub session-refuses : (s : Settings) (n : ℕ) → checked t h p ≡ taken s → sessionStart command image ≡ refused n
-      → hostStart t h p command image ≡ refused n
-  unfolding checked hostStart sessionStart
-  session-refuses s n e q =
-      taken-before (loadRows command image) given (fresh given whole) s (settingsRows t h p) e .0
-      ∙ refused-alike (loadRows command image) whole (fresh given whole) n q
+  -- They are taken: the session decides.
+  module _ (r : Checked) (s : Settings) (e : r ≡ settings.Taken s) (q : toldChecked r ≡ checked t h p) where
+    past-settings : (hostStart t h p command image ≡ first (loadRows command image) (fresh given whole)) × (s ≡ given)
+    unfolding checked hostStart
+    past-settings = taken-before (loadRows command image) given (fresh given whole) s (settingsRows t h p) (sym q ∙ ap toldChecked e)
 
-  pub both-take : (s : Settings) (x : Session) → checked t h p ≡ taken s → sessionStart command image ≡ taken x
-      → hostStart t h p command image ≡ taken (fresh s x)
-  unfolding checked hostStart sessionStart
-  both-take s x e q =
-      let settled = taken-before (loadRows command image) given (fresh given whole) s (settingsRows t h p) e in
-      let opened = taken-alike (loadRows command image) whole (fresh given whole) x q in
-      settled .0
-      ∙ opened .0
-      ∙ ap (λ (y : Settings). taken (fresh y whole)) (sym (settled .1))
-      ∙ ap (λ (y : Session). taken (fresh s y)) (sym (opened .1))
+    pub session-refuses : (u : Started) (n : ℕ) → u ≡ started.Refused n → toldStarted u ≡ sessionStart command image
+        → refused n ≡ hostStart t h p command image
+    unfolding sessionStart
+    session-refuses u n d w =
+        sym (past-settings .0 ∙ refused-alike (loadRows command image) whole (fresh given whole) n (sym w ∙ ap toldStarted d))
+
+    pub both-take : (u : Started) (x : Session) → u ≡ started.Taken x → toldStarted u ≡ sessionStart command image
+        → taken (fresh s x) ≡ hostStart t h p command image
+    unfolding sessionStart
+    both-take u x d w =
+        let opened = taken-alike (loadRows command image) whole (fresh given whole) x (sym w ∙ ap toldStarted d) in
+        ap (λ (y : Settings). taken (fresh y x)) (past-settings .1)
+        ∙ ap (λ (y : Session). taken (fresh given y)) (opened .1)
+        ∙ sym (past-settings .0 ∙ opened .0)
 
   pub start-gives : (x : Host) → hostStart t h p command image ≡ taken x → (x ≡ fresh given whole) × Fit t h p × Known command image
   unfolding hostStart checked accepted

@@ -2,38 +2,27 @@
 -- contract.
 -- Assumes nothing.
 use mathlib.Core.Path.{_≡_, refl}
-use Rattle.terms.specs.Refusals.{Answer, refused, taken}
-use Rattle.terms.proofs.Answers.{OneAnswer, one-told}
+use Rattle.terms.proofs.Answers.{OneAnswer, back, one-told}
 use Rattle.host.specs.Step.{toldBegun, toldPlanned}
 use Rattle.host.specs.declared.Begun.{Begun}
 use Rattle.host.specs.declared.Begun.the-variants as begun
-use Rattle.host.specs.declared.Host.{Host}
 use Rattle.host.specs.declared.Planned.{Planned}
 use Rattle.host.specs.declared.Planned.the-variants as planned
-use Rattle.host.specs.declared.Sent.{Sent}
 use Rattle.host.proofs.Host.start.Kinds as start-kinds
 use Rattle.host.proofs.Host.start.Reads as start
 use Rattle.host.proofs.Host.step.Kinds as step-kinds
 use Rattle.host.proofs.Host.step.Reads as step
 
-abbrev backBegun : Answer Host → Begun
-backBegun (refused n) = begun.Refused n
-backBegun (taken x) = begun.Taken x
-
-pub back-told-begun : (r : Begun) → backBegun (toldBegun r) ≡ r
+pub back-told-begun : (r : Begun) → back begun.Refused begun.Taken (toldBegun r) ≡ r
 back-told-begun (begun.Refused n) = refl
 back-told-begun (begun.Taken x) = refl
 
-abbrev backPlanned : Answer Sent → Planned
-backPlanned (refused n) = planned.Refused n
-backPlanned (taken x) = planned.Taken x
-
-pub back-told-planned : (r : Planned) → backPlanned (toldPlanned r) ≡ r
+pub back-told-planned : (r : Planned) → back planned.Refused planned.Taken (toldPlanned r) ≡ r
 back-told-planned (planned.Refused n) = refl
 back-told-planned (planned.Taken x) = refl
 
 pub start-one : OneAnswer start-kinds.ps start-kinds.r start.Post
-start-one κs a r₁ r₂ e₁ e₂ p q = one-told toldBegun backBegun back-told-begun r₁ r₂ _ p q
+start-one κs a r₁ r₂ e₁ e₂ p q = one-told toldBegun (back begun.Refused begun.Taken) back-told-begun r₁ r₂ p q
 
 pub step-one : OneAnswer step-kinds.ps step-kinds.r step.Post
-step-one κs a r₁ r₂ e₁ e₂ p q = one-told toldPlanned backPlanned back-told-planned r₁ r₂ _ p q
+step-one κs a r₁ r₂ e₁ e₂ p q = one-told toldPlanned (back planned.Refused planned.Taken) back-told-planned r₁ r₂ p q

@@ -16,7 +16,7 @@ use Rattle.chip.specs.declared.Started.{Started}
 use Rattle.chip.specs.declared.Started.the-variants as starts
 use Rattle.eeprom.specs.declared.Fault.{Fault}
 use Rattle.joined.specs.Joined.{roundedDown, hostEnded, played, begun}
-use Rattle.joined.specs.Run.{budget, outcome, left, finished, fromChip, fromHost, runOf, state}
+use Rattle.joined.specs.Run.{budget, Outcome, outcome, left, finished, fromChip, fromHost, runOf, state}
 use Rattle.joined.specs.declared.Joined.{Joined}
 use Rattle.joined.proofs.Budget.{run-ends}
 
@@ -48,6 +48,10 @@ module _ (t h p command : ℕ) (image : List ℕ) (fault : Fault) (l : ℕ) (ram
           let end = run-ends (roundedDown p l) image t h p command host (sym host-taken) ram eeprom fault chip (sym chip-taken) in
           ap hostEnded (u ∙ end .run) ∙ end .ended
 
-      pub run-finished : left (taken (outcome (j .host) (j .chip) (j .rise .0))) ram′ eeprom′ ≡ runOf t h p command image fault l ram eeprom
-      run-finished =
-          ap finished u ∙ ap (fromChip (roundedDown p l) image ram eeprom host) chip-taken ∙ from-chip
+      pub run-finished : (o : Outcome) → o ≡ outcome (j .host) (j .chip) (j .rise .0)
+          → left (taken o) ram′ eeprom′ ≡ runOf t h p command image fault l ram eeprom
+      run-finished o is =
+          ap (λ (x : Outcome). left (taken x) ram′ eeprom′) is
+          ∙ ap finished u
+          ∙ ap (fromChip (roundedDown p l) image ram eeprom host) chip-taken
+          ∙ from-chip

@@ -5,10 +5,9 @@ use mathlib.Core.Bool.{false}
 use mathlib.Core.List.{List}
 use mathlib.Core.Path.{_≡_, refl, sym, ap, _∙_, subst}
 use Prim.Native.Nat.{ℕ, _+_}
-use native.Mathlib.Omega.{arith}
 use lib.ListN.{length}
 use Rattle.terms.specs.Refusals.{refused, taken}
-use Rattle.terms.proofs.Refusals.{agrees, clear-taken}
+use Rattle.terms.proofs.Refusals.{not-both, agrees, clear-taken}
 use Rattle.terms.proofs.Tests.{when-elim}
 use Rattle.session.specs.Step.{otherImage, pulseOf}
 use Rattle.session.proofs.Within.{session-within}
@@ -90,7 +89,7 @@ module _ (measured : Measuring) (image : List ℕ) (s : State) (k : Sound image 
         reached = stepped (s .chip) (s .ram) (s .eeprom) wait low _ _ _ (k .reached) (sym (chip-plays e wait low));
         ram-size = done-ram (s .chip .fault) (heard .event) (s .ram) (s .eeprom) ∙ k .ram-size;
         eeprom-size = done-eeprom (s .chip .fault) (heard .event) (s .ram) (s .eeprom) ∙ k .eeprom-size;
-        unrefused = λ n q. let z : _≡_ {A = ℕ} 0 1 = cc in absurd (omega arith);
+        unrefused = λ n q. not-both (sym q);
       })
 
   listened-fine : Fine (listened measured s shot)
@@ -105,7 +104,7 @@ module _ (measured : Measuring) (image : List ℕ) (s : State) (k : Sound image 
         reached = k .reached;
         ram-size = k .ram-size;
         eeprom-size = k .eeprom-size;
-        unrefused = λ n q. let z : _≡_ {A = ℕ} 0 1 = cc in absurd (omega arith);
+        unrefused = λ n q. not-both (sym q);
       })
       (λ e. plays-fine e _ _)
 

@@ -9,9 +9,9 @@ use Prim.Native.Nat.{ℕ}
 use lib.Dec.{eqb}
 use borrow.Author.Tests.{eqb-true, eqb-false, le-ltb, ltb-false}
 use Rattle.terms.specs.Choice.{when}
-use Rattle.terms.specs.Refusals.{refused, taken}
+use Rattle.terms.specs.Refusals.{refused, taken, Given}
 use Rattle.terms.proofs.Tests.{when-true, when-false, either-false, less-false, differ-false}
-use Rattle.terms.proofs.Refusals.{Given, Clear, refused-exactly, taken-exactly}
+use Rattle.terms.proofs.Refusals.{Clear, refused-exactly, taken-exactly}
 use Rattle.load.specs.Image.{badLength, otherLength, otherStart, badStack, otherSum}
 use Rattle.load.specs.Load.{imageRows, loadRows, loadOf, accepted}
 use Rattle.load.specs.declared.Load.{Load}

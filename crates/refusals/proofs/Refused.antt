@@ -8,8 +8,8 @@ use mathlib.Core.Path.{_≡_, refl, sym, ap, _∙_}
 use Prim.Native.Nat.{ℕ}
 use native.Mathlib.Omega.{arith}
 use lib.ListN.{length}
-use Rattle.terms.specs.Refusals.{Row, Answer, refused, taken, first}
-use Rattle.terms.proofs.Refusals.{Given, Clear, refused-exactly, taken-exactly, clear-taken, clear-both, agrees}
+use Rattle.terms.specs.Refusals.{Row, Answer, refused, taken, first, Given}
+use Rattle.terms.proofs.Refusals.{Clear, refused-exactly, taken-exactly, clear-taken, clear-both, agrees}
 use Rattle.units.specs.declared.Seen.{Seen}
 use Rattle.settings.specs.Settings.{settingsRows, checked}
 use Rattle.load.specs.Load.{loadRows, loadOf, accepted}

@@ -7,8 +7,7 @@ use mathlib.Core.Logic.{_↔_}
 use mathlib.Core.Path.{_≡_}
 use Prim.Native.Nat.{ℕ}
 use lib.ListN.{length}
-use Rattle.terms.specs.Refusals.{Row, refused}
-use Rattle.terms.proofs.Refusals.{Given}
+use Rattle.terms.specs.Refusals.{Row, refused, Given}
 use Rattle.units.specs.declared.Seen.{Seen}
 use Rattle.settings.specs.Settings.{settingsRows, checked}
 use Rattle.load.specs.Load.{loadRows, accepted}

@@ -6,8 +6,8 @@ use mathlib.Core.Path.{_≡_, sym, _∙_}
 use Prim.Native.Nat.{ℕ}
 use mathlib.Core.Logic.{inl, inr}
 use native.Mathlib.Omega.{arith}
-use Rattle.terms.specs.Refusals.{refused, taken}
-use Rattle.terms.proofs.Refusals.{Given, refused-exactly}
+use Rattle.terms.specs.Refusals.{refused, taken, Given}
+use Rattle.terms.proofs.Refusals.{refused-exactly}
 use Rattle.units.specs.declared.Seen.{Seen}
 use Rattle.session.specs.Reached.{Reached, started, stepped}
 use Rattle.session.specs.Step.{sessionStart, stepRows, pulseOf, sessionStep}

@@ -10,21 +10,25 @@ use borrow.Author.Tests.{eqb-false, ne-eqb}
 use Rattle.terms.specs.Refusals.{refused, taken}
 use Rattle.terms.proofs.Refusals.{refused-alike, taken-alike}
 use Rattle.terms.proofs.Tests.{when-false, when-elim, differ-false}
-use Rattle.load.specs.Load.{loadRows, loadOf, accepted}
+use Rattle.load.specs.Load.{loadRows, loadOf, accepted, toldAccepted}
+use Rattle.load.specs.declared.Accepted.{Accepted}
+use Rattle.load.specs.declared.Accepted.the-variants.{Refused, Taken}
 use Rattle.load.specs.declared.Load.{Load}
 use Rattle.session.specs.Step.{fresh, sessionStart, otherImage}
 use Rattle.session.specs.declared.Session.{Session}
 
 module _ (command : ℕ) (image : List ℕ) where
-  pub start-refused : (n : ℕ) → accepted command image ≡ refused n → sessionStart command image ≡ refused n
+  pub start-refused : (r : Accepted) (n : ℕ) → r ≡ Refused n → toldAccepted r ≡ accepted command image
+      → refused n ≡ sessionStart command image
   unfolding accepted sessionStart
-  start-refused n e = refused-alike (loadRows command image) _ _ n e
+  start-refused r n e q = sym (refused-alike (loadRows command image) _ _ n (sym q ∙ ap toldAccepted e))
 
-  pub start-taken : (l : Load) → accepted command image ≡ taken l → sessionStart command image ≡ taken (fresh l)
+  pub start-taken : (r : Accepted) (l : Load) (s : Session) → r ≡ Taken l → toldAccepted r ≡ accepted command image → s ≡ fresh l
+      → taken s ≡ sessionStart command image
   unfolding accepted sessionStart
-  start-taken l e =
-      let p = taken-alike (loadRows command image) (loadOf command image) (fresh (loadOf command image)) l e in
-      p .0 ∙ ap (λ (x : Load). taken (fresh x)) (sym (p .1))
+  start-taken r l s e q w =
+      let p = taken-alike (loadRows command image) (loadOf command image) (fresh (loadOf command image)) l (sym q ∙ ap toldAccepted e) in
+      ap taken (w ∙ ap fresh (p .1)) ∙ sym (p .0)
 
   pub start-load : (s : Session) → sessionStart command image ≡ taken s
       → (accepted command image ≡ taken (loadOf command image)) × (s ≡ fresh (loadOf command image))

@@ -5,9 +5,9 @@ use mathlib.Core.Bool.{true, false}
 use mathlib.Core.Logic.{_⊎_, _↔_, Iff·rfl}
 use mathlib.Core.Path.{_≡_}
 use Prim.Native.Nat.{ℕ, _<_, _≤_}
-use Rattle.terms.specs.Refusals.{refused, taken}
+use Rattle.terms.specs.Refusals.{refused, taken, Given}
 use Rattle.terms.proofs.Tests.{either-false, either-says, less-false, less-true}
-use Rattle.terms.proofs.Refusals.{Given, Clear, refused-exactly, taken-exactly}
+use Rattle.terms.proofs.Refusals.{Clear, refused-exactly, taken-exactly}
 use Rattle.settings.specs.Settings.{outside, settingsRows, checked, settingsOutside}
 use Rattle.settings.specs.declared.Settings.{Settings}
 

@@ -1,5 +1,6 @@
 pub mod Calibration
 pub mod Clock
+pub mod Looking
 pub mod Meeting
 pub mod Simulation
 pub mod Succeeding

@@ -9,6 +9,8 @@ use native.Mathlib.Omega.{arith}
 use lib.ListN.{length}
 use Rattle.terms.specs.Choice.{when, either}
 use Rattle.terms.specs.Refusals.{Answer, refused, taken}
+use Rattle.terms.proofs.Answers.{back}
+use Rattle.terms.proofs.Refusals.{not-both}
 use Rattle.units.specs.Units.{most, loopsIn}
 use Rattle.units.proofs.Conversions.{some-length}
 use Rattle.lent.specs.Bytes.{wordAt, total}
@@ -76,11 +78,6 @@ just-taken : hostStart 4300 8600 575000 1 sample ≡ taken (fresh 4300 8600 5750
 unfolding sample wordAt total hostStart outside badLength otherLength otherStart badStack otherSum when either
 just-taken = refl
 
--- What a taken answer holds.
-abbrev of : Outcome → Answer Outcome → Outcome
-of o (refused n) = o
-of o (taken x) = x
-
 -- A host ends only once.
 same-end : (measured : Measuring) (image : List ℕ) (s : State) (m n : ℕ)
     → ((k : ℕ) → k < m → hostEnded (after measured image k s) ≡ false) → hostEnded (after measured image m s) ≡ true
@@ -136,20 +133,19 @@ module _ (t h p command : ℕ) (image : List ℕ) (host : Host) (ram eeprom : Li
   not-refused : (n : ℕ) → runOf t h p command image None l ram eeprom .answer ≡ refused n → ⊥
   not-refused n e =
       let q : taken came-to ≡ refused n = ap (λ (x : Left). x .answer) (sym ran-so) ∙ e in
-      let z : _≡_ {A = ℕ} 0 1 = cc in
-      omega arith
+      not-both (sym q)
 
   answers-so : (o : Outcome) → runOf t h p command image None l ram eeprom .answer ≡ taken o → Answers t h p command image l ram eeprom o
   answers-so o e =
       let q : taken came-to ≡ taken o = ap (λ (x : Left). x .answer) (sym ran-so) ∙ e in
-      subst (Answers t h p command image l ram eeprom) (ap (of came-to) q) answers
+      subst (Answers t h p command image l ram eeprom) (ap (back (λ n. came-to) (λ x. x)) q) answers
 
 -- A run that is taken has both starts taken.
 module _ (t h p command : ℕ) (image : List ℕ) (l : ℕ) (ram eeprom : List ℕ) (o : Outcome) (bytes : AllBytes image) (loop : Loop l) (margin : Margin t p l)
     (e : runOf t h p command image None l ram eeprom .answer ≡ taken o) where
   by-chip : (host : Host) → hostStart t h p command image ≡ taken host → (c : Answer Chip) → chipStart ram eeprom None ≡ c
       → fromChip (roundedDown p l) image ram eeprom host c .answer ≡ taken o → Answers t h p command image l ram eeprom o
-  by-chip host q (refused n) w u = let z : _≡_ {A = ℕ} 0 1 = cc in absurd (omega arith)
+  by-chip host q (refused n) w u = absurd (not-both u)
   by-chip host q (taken chip) w u =
       answers-so t h p command image host ram eeprom chip l (record {
         host-starts = q;
@@ -162,7 +158,7 @@ module _ (t h p command : ℕ) (image : List ℕ) (l : ℕ) (ram eeprom : List �
 
   by-host : (x : Answer Host) → hostStart t h p command image ≡ x → fromHost (roundedDown p l) image ram eeprom None x .answer ≡ taken o
       → Answers t h p command image l ram eeprom o
-  by-host (refused n) q u = let z : _≡_ {A = ℕ} 0 1 = cc in absurd (omega arith)
+  by-host (refused n) q u = absurd (not-both u)
   by-host (taken host) q u = by-chip host q _ refl u
 
   taken-answers : Answers t h p command image l ram eeprom o

@@ -1,24 +1,19 @@
 -- The run follows the conversation: where each low may be measured as its bit and no time-out is met, one pulse of the run is one pulse
 -- of the conversation.
 -- Assumes nothing.
-use mathlib.Core.Bool.{Bool, true, false}
+use mathlib.Core.Bool.{Bool, false}
 use mathlib.Core.List.{List}
 use mathlib.Core.Path.{_≡_, refl, sym, ap, _∙_, subst}
 use Prim.Native.Nat.{ℕ, _+_, _-_, _<_}
 use native.Mathlib.Numerals.{add-one}
 use native.Mathlib.Omega.{arith}
-use Rattle.terms.specs.Choice.{when}
 use Rattle.terms.proofs.Tests.{when-false}
 use Rattle.units.specs.Line.{told, seen}
 use Rattle.units.specs.declared.Loops.{Loops}
 use Rattle.units.specs.declared.Seen.{Seen}
-use Rattle.units.specs.declared.Seen.the-variants.{Silence}
 use Rattle.units.proofs.Lines.{seen-told}
 use Rattle.load.specs.declared.Load.{Load}
-use Rattle.bits.specs.Bits.{pairBit}
-use Rattle.follow.specs.Follow.{afterConnection, afterVersionPair, afterWaitPair, next}
-use Rattle.place.specs.declared.Phase.{Phase}
-use Rattle.place.specs.declared.Phase.the-variants.{Calibration, Handshake, Connection, Version, Command, Zeros, Size, Image, Wait, Ended}
+use Rattle.follow.specs.Follow.{next}
 use Rattle.place.specs.declared.Place.{Place}
 use Rattle.phases.specs.Phases as chip
 use Rattle.listener.specs.Hears.{hears, settled}
@@ -32,29 +27,11 @@ use Rattle.chip.specs.Step.{pulse}
 use Rattle.conversation.specs.Conversation.{Talk, bitOf, placeAfter, heardOf, passed, talked, Open, Reach, stay, step}
 use Rattle.conversation.proofs.Pulses.{sound-stays}
 use Rattle.joined.specs.Ends.{after, Unrefused}
-use Rattle.joined.specs.Joined.{State, Measuring, aroundFirst, sees, waited, lasted, listened, met, pulsed, hostEnded}
+use Rattle.joined.specs.Joined.{State, Measuring, sees, waited, lasted, listened, met, pulsed, hostEnded}
 use Rattle.joined.proofs.Budget.{before-all}
 use Rattle.joined.proofs.Sound.{Sound, shot, chip-plays, pulsed-met, pulsed-sound, pulsed-count, unrefused-here}
+use Rattle.success.proofs.Looking.{sees-enough}
 use Rattle.success.proofs.Thresholds.{heard-same, settled-same}
-
--- What the host sees where it doesn't look changes nothing.
-unlooked : {A : Type 0} (b : Bool) (x : A) (f : Seen → A) (reply : Seen) → when b x (f (when b Silence reply)) ≡ when b x (f reply)
-unfolding when
-unlooked true x f reply = refl
-unlooked false x f reply = refl
-
-pub sees-enough : (load : Load) (phase : Phase) (i : ℕ) (reply : Seen) → next load phase i (sees phase i reply) ≡ next load phase i reply
-unfolding next aroundFirst
-sees-enough load Calibration i reply = refl
-sees-enough load Handshake i reply = refl
-sees-enough load Connection i reply = unlooked (pairBit i) _ (afterConnection load i) reply
-sees-enough load (Version v) i reply = unlooked (pairBit i) _ (afterVersionPair load v i) reply
-sees-enough load Command i reply = refl
-sees-enough load Zeros i reply = refl
-sees-enough load Size i reply = refl
-sees-enough load Image i reply = refl
-sees-enough load (Wait a) i reply = unlooked (pairBit i) _ (afterWaitPair load a i) reply
-sees-enough load (Ended e) i reply = refl
 
 -- The conversation at a state of the run.
 abbrev pub talkOf : State → Talk

@@ -3,7 +3,7 @@
 -- Assumes nothing.
 use Prim.Native.Nat.{ℕ}
 use mathlib.Core.Bool.{Bool, true, false, not}
-use mathlib.Core.List.{List, [], _∷_, _++_}
+use mathlib.Core.List.{List, [], _∷_, _++_, append-nil}
 use mathlib.Core.Logic.{_⊎_, inl, inr, _↔_}
 use mathlib.Core.Path.{_≡_, refl, sym, ap, _∙_}
 use native.Mathlib.Omega.{arith}
@@ -11,17 +11,15 @@ use lib.Dec.{eqb}
 use borrow.Author.Tests.{lt-ltb, le-ltb, le-leb, lt-leb, eq-eqb, ne-eqb}
 use Rattle.terms.specs.Choice.{when, both, either}
 use Rattle.terms.proofs.Tests.{when-true, when-false, either-true, differ-true, differ-false}
-use Rattle.terms.specs.Refusals.{Row, Answer, refused, taken, _given-when_, first}
-
--- Row n applies, and no row before it.
-abbrev pub Given : ℕ → List Row → Type 0
-Given n [] = ⊥
-Given n (r ∷ rows) = ((r .number ≡ n) × (r .applies ≡ true)) ⊎ ((r .applies ≡ false) × Given n rows)
+use Rattle.terms.specs.Refusals.{Row, Answer, refused, taken, _given-when_, first, Given}
 
 -- No row applies.
 abbrev pub Clear : List Row → Type 0
 Clear [] = Unit {0}
 Clear (r ∷ rows) = (r .applies ≡ false) × Clear rows
+
+pub not-both : {A : Type 0} {n : ℕ} {x : A} → refused n ≡ taken x → ⊥
+not-both e = let z : _≡_ {A = ℕ} 0 1 = cc in omega arith
 
 module _ {A : Type 0} (a : A) where
   refused-row : (n m : ℕ) (b : Bool) (rows : List Row) → (first rows a ≡ refused n → Given n rows)
@@ -31,7 +29,7 @@ module _ {A : Type 0} (a : A) where
   refused-row n m false rows f e = inr (refl, f e)
 
   refused-given : (n : ℕ) (rows : List Row) → first rows a ≡ refused n → Given n rows
-  refused-given n [] e = let z : _≡_ {A = ℕ} 0 1 = cc in omega arith
+  refused-given n [] e = not-both (sym e)
   refused-given n (r ∷ rows) e = refused-row n (r .number) (r .applies) rows (refused-given n rows) e
 
   given-refused : (n : ℕ) (rows : List Row) → Given n rows → first rows a ≡ refused n
@@ -45,21 +43,25 @@ module _ {A : Type 0} (a : A) where
   taken-row : (x : A) (m : ℕ) (b : Bool) (rows : List Row) → (first rows a ≡ taken x → Clear rows × (x ≡ a))
       → when b (refused m) (first rows a) ≡ taken x → Clear (m given-when b ∷ rows) × (x ≡ a)
   unfolding when
-  taken-row x m true rows f e = let z : _≡_ {A = ℕ} 0 1 = cc in absurd (omega arith)
+  taken-row x m true rows f e = absurd (not-both e)
   taken-row x m false rows f e = let g = f e in ((refl, g .0), g .1)
 
   taken-clear : (x : A) (rows : List Row) → first rows a ≡ taken x → Clear rows × (x ≡ a)
   taken-clear x [] e = (tt, cc)
   taken-clear x (r ∷ rows) e = taken-row x (r .number) (r .applies) rows (taken-clear x rows) e
 
+  -- Past rows that do not apply, the others decide.
+  passed-by : (more rows : List Row) → Clear rows → first (rows ++ more) a ≡ first more a
+  passed-by more [] c = refl
+  passed-by more (r ∷ rows) c = when-false _ _ (c .0) ∙ passed-by more rows (c .1)
+
   pub clear-taken : (rows : List Row) → Clear rows → first rows a ≡ taken a
-  clear-taken [] c = refl
-  clear-taken (r ∷ rows) c = when-false _ _ (c .0) ∙ clear-taken rows (c .1)
+  clear-taken rows c = rw append-nil at (passed-by [] rows c)
 
   pub taken-exactly : (x : A) (rows : List Row) → (first rows a ≡ taken x) ↔ (Clear rows × (x ≡ a))
   taken-exactly x rows = (taken-clear x rows, λ c. clear-taken rows (c .0) ∙ ap taken (sym (c .1)))
 
--- Rows followed by more: what they refuse stays refused, and past them the others decide.
+-- Rows followed by more: what they refuse stays refused.
 module _ (more : List Row) where
   given-before : (n : ℕ) (rows : List Row) → Given n rows → Given n (rows ++ more)
   given-before n [] g = absurd g
@@ -71,15 +73,11 @@ module _ (more : List Row) where
   clear-both (r ∷ rows) c = let p = clear-both rows (c .1) in ((c .0, p .0), p .1)
 
   module _ {A B : Type 0} (a : A) (b : B) where
-    passed-by : (rows : List Row) → Clear rows → first (rows ++ more) b ≡ first more b
-    passed-by [] c = refl
-    passed-by (r ∷ rows) c = when-false _ _ (c .0) ∙ passed-by rows (c .1)
-
     pub refused-before : (n : ℕ) (rows : List Row) → first rows a ≡ refused n → first (rows ++ more) b ≡ refused n
     refused-before n rows e = given-refused b n (rows ++ more) (given-before n rows (refused-given a n rows e))
 
     pub taken-before : (x : A) (rows : List Row) → first rows a ≡ taken x → (first (rows ++ more) b ≡ first more b) × (x ≡ a)
-    taken-before x rows e = let p = taken-clear a x rows e in (passed-by rows (p .0), p .1)
+    taken-before x rows e = let p = taken-clear a x rows e in (passed-by b more rows (p .0), p .1)
 
 -- Rows refuse the same, and let the same pass, whatever the call hands back.
 module _ {A B : Type 0} (rows : List Row) (a : A) (b : B) where
@@ -91,17 +89,21 @@ module _ {A B : Type 0} (rows : List Row) (a : A) (b : B) where
 
 -- The steps of a walk through a table: a row that applies is the answer, and one that does not is passed.
 pub row-given : {A : Type 0} (b : Bool) (r x y : A) → b ≡ true → r ≡ x → r ≡ when b x y
-row-given b r x y e p = p ∙ sym (when-true x y e)
+unfolding when
+row-given b r x y e p = rw e p
 
 pub row-passed : {A : Type 0} (b : Bool) (r x y : A) → b ≡ false → r ≡ y → r ≡ when b x y
-row-passed b r x y e p = p ∙ sym (when-false x y e)
+unfolding when
+row-passed b r x y e p = rw e p
 
 -- The same where the rows themselves go by a test.
 pub rows-here : {A : Type 0} (b : Bool) (r : Answer A) (xs ys : List Row) (a : A) → b ≡ true → r ≡ first xs a → r ≡ first (when b xs ys) a
-rows-here b r xs ys a e p = p ∙ ap (λ (rows : List Row). first rows a) (sym (when-true xs ys e))
+unfolding when
+rows-here b r xs ys a e p = rw e p
 
 pub rows-there : {A : Type 0} (b : Bool) (r : Answer A) (xs ys : List Row) (a : A) → b ≡ false → r ≡ first ys a → r ≡ first (when b xs ys) a
-rows-there b r xs ys a e p = p ∙ ap (λ (rows : List Row). first rows a) (sym (when-false xs ys e))
+unfolding when
+rows-there b r xs ys a e p = rw e p
 
 -- The same in a row of several tests.
 pub either-here : (a b : Bool) → a ≡ true → true ≡ either a b

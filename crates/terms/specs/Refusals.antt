@@ -1,8 +1,10 @@
 -- 01, "Refusal numbers": rows of a number and when it is given, checked in their order; the first that applies is given.
 -- Assumes nothing.
 use Prim.Native.Nat.{ℕ}
-use mathlib.Core.Bool.{Bool}
+use mathlib.Core.Bool.{Bool, true, false}
 use mathlib.Core.List.{List, [], _∷_}
+use mathlib.Core.Logic.{_⊎_}
+use mathlib.Core.Path.{_≡_}
 use Rattle.terms.specs.Choice.{when}
 
 infix 70 _given-when_
@@ -23,3 +25,8 @@ pub data Answer (A : Type 0) : Type 0 where
 abbrev pub first : {A : Type 0} → List Row → A → Answer A
 first [] a = taken a
 first (r ∷ rows) a = when (r .applies) (refused (r .number)) (first rows a)
+
+-- Row n applies, and no row before it.
+abbrev pub Given : ℕ → List Row → Type 0
+Given n [] = ⊥
+Given n (r ∷ rows) = ((r .number ≡ n) × (r .applies ≡ true)) ⊎ ((r .applies ≡ false) × Given n rows)

@@ -1,8 +1,18 @@
 -- `Place::bit`, phase by phase.
 -- Assumes nothing.
+use mathlib.Core.Bool.{Bool}
+use mathlib.Core.List.{List}
+use mathlib.Core.Path.{_≡_}
+use Prim.Native.Nat.{ℕ}
+use Rattle.load.specs.declared.Load.{Load}
+use Rattle.place.specs.declared.Phase.{Phase}
+use Rattle.bits.specs.Bits.{sentBit}
 use borrow.Author.Needs.{needs}
 use Rattle.bits.proofs.bit.Statement.{statement}
 use Rattle.bits.proofs.bit.Tie as tie
+
+by-phase : (load : Load) (image : List ℕ) (i : ℕ) {r : Bool} {p q : Phase} → p ≡ q → r ≡ sentBit load image q i → r ≡ sentBit load image p i
+by-phase load image i e h = rw e h
 
 enum-told : tie.Need-enum-told
 enum-told c = search needs
@@ -59,31 +69,31 @@ enum-told-10 : tie.Need-enum-told-10
 enum-told-10 c = search needs
 
 returns : tie.Need-returns
-returns c = rw (c .before .enum-told .given .1) (c .pair-bit .ensures)
+returns c = search by-phase
 
 returns-2 : tie.Need-returns-2
-returns-2 c = rw (c .before .enum-told2 .given .1) (c .handshake-bit .ensures)
+returns-2 c = search by-phase
 
 returns-3 : tie.Need-returns-3
-returns-3 c = rw (c .before .enum-told3 .given .1) (c .pair-bit2 .ensures)
+returns-3 c = search by-phase
 
 returns-4 : tie.Need-returns-4
-returns-4 c = rw (c .before .enum-told4 .given .1) (c .pair-bit3 .ensures)
+returns-4 c = search by-phase
 
 returns-5 : tie.Need-returns-5
-returns-5 c = rw (c .before .enum-told5 .given .1) (c .value-bit .ensures)
+returns-5 c = search by-phase
 
 returns-6 : tie.Need-returns-6
 returns-6 c = search needs
 
 returns-7 : tie.Need-returns-7
-returns-7 c = rw (c .before .enum-told7 .given .1) (c .size-bit .ensures)
+returns-7 c = search by-phase
 
 returns-8 : tie.Need-returns-8
-returns-8 c = rw (c .before .enum-told8 .given .1) (c .image-bit .ensures)
+returns-8 c = search by-phase
 
 returns-9 : tie.Need-returns-9
-returns-9 c = rw (c .before .enum-told9 .given .1) (c .pair-bit4 .ensures)
+returns-9 c = search by-phase
 
 returns-10 : tie.Need-returns-10
 returns-10 c = search needs

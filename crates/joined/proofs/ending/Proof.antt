@@ -1,11 +1,17 @@
 -- `ending` is asked only of a phase that is an ending.
 -- Assumes nothing.
-use mathlib.Core.Bool.{true≢false}
-use mathlib.Core.Path.{sym, ap, _∙_}
+use mathlib.Core.Bool.{true, false, true≢false}
+use mathlib.Core.Path.{_≡_, sym, ap, _∙_}
 use Rattle.place.specs.Phases.{ended}
+use Rattle.place.specs.declared.Ending.{Ending}
+use Rattle.place.specs.declared.Phase.{Phase}
+use Rattle.place.specs.declared.Phase.the-variants.{Ended}
 use borrow.Author.Needs.{needs}
 use Rattle.joined.proofs.ending.Statement.{statement}
 use Rattle.joined.proofs.ending.Tie as tie
+
+never : {r : Ending} {p q : Phase} → ended p ≡ true → p ≡ q → ended q ≡ false → Ended r ≡ p
+never h e n = absurd (true≢false (sym h ∙ ap ended e ∙ n))
 
 enum-told : tie.Need-enum-told
 enum-told c = search needs
@@ -38,31 +44,31 @@ enum-known-phase : tie.Need-enum-known-phase
 enum-known-phase c = search needs
 
 returns : tie.Need-returns
-returns c = absurd (true≢false (sym (c .before .before .pre) ∙ ap ended (c .enum-told .given .1)))
+returns c = search never
 
 returns-2 : tie.Need-returns-2
-returns-2 c = absurd (true≢false (sym (c .before .before .pre) ∙ ap ended (c .enum-told2 .given .1)))
+returns-2 c = search never
 
 returns-3 : tie.Need-returns-3
-returns-3 c = absurd (true≢false (sym (c .before .before .pre) ∙ ap ended (c .enum-told3 .given .1)))
+returns-3 c = search never
 
 returns-4 : tie.Need-returns-4
-returns-4 c = absurd (true≢false (sym (c .before .before .pre) ∙ ap ended (c .enum-told4 .given .1)))
+returns-4 c = search never
 
 returns-5 : tie.Need-returns-5
-returns-5 c = absurd (true≢false (sym (c .before .before .pre) ∙ ap ended (c .enum-told5 .given .1)))
+returns-5 c = search never
 
 returns-6 : tie.Need-returns-6
-returns-6 c = absurd (true≢false (sym (c .before .before .pre) ∙ ap ended (c .enum-told6 .given .1)))
+returns-6 c = search never
 
 returns-7 : tie.Need-returns-7
-returns-7 c = absurd (true≢false (sym (c .before .before .pre) ∙ ap ended (c .enum-told7 .given .1)))
+returns-7 c = search never
 
 returns-8 : tie.Need-returns-8
-returns-8 c = absurd (true≢false (sym (c .before .before .pre) ∙ ap ended (c .enum-told8 .given .1)))
+returns-8 c = search never
 
 returns-9 : tie.Need-returns-9
-returns-9 c = absurd (true≢false (sym (c .before .before .pre) ∙ ap ended (c .enum-told9 .given .1)))
+returns-9 c = search never
 
 returns-10 : tie.Need-returns-10
 returns-10 c = sym (c .before .phase .given .1)

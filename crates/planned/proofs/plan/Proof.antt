@@ -1,11 +1,7 @@
 -- `plan`: a run that isn't refused launches what it loaded, by demand 3, so that the chip does not listen.
 -- Assumes nothing.
-use mathlib.Core.Path.{sym, ap, _∙_}
 use native.Mathlib.Omega.{arith}
-use denote.Ref.{now}
-use Rattle.joined.specs.Run.{Left, toldReport, toldRan}
-use Rattle.success.proofs.Meeting.{met}
-use Rattle.planned.proofs.Endings.{ended-deaf}
+use Rattle.planned.proofs.Endings.{ran-deaf}
 use borrow.Author.Needs.{needs}
 use Rattle.planned.proofs.plan.Statement.{statement}
 use Rattle.planned.proofs.plan.Tie as tie
@@ -30,16 +26,8 @@ enum-known-report c = search needs
 
 print-requires : tie.Need-print-requires
 print-requires c κs =
-    let a = c .before .before .before .before .before .before .before .args in
-    let run = c .before .before .before .run in
     let known = c .before .before .before .before .before .before .shared-slice-known in
-    let ran = ap (λ (x : Left). x .answer) (sym (run .ensures)) ∙ ap toldRan (c .before .report .given .1) in
-    let ends =
-    met .run-succeeds 8600 8600 700000 1 (now (a .image)) 400000 (a .ram .now) (a .eeprom .now) (toldReport (c .before .report .given .0 .0)) (λ i. omega (arith, known .given i))
-    (omega arith, omega arith)
-    (omega arith)
-    ran .chip-ends in
-    ended-deaf (c .before .report .given .0 .0 .chip) _ ends
+    ran-deaf _ _ _ _ _ _ _ (λ i. omega (arith, known .given i)) (c .before .report .given .1) (c .before .before .before .run .ensures)
 
 returns : tie.Need-returns
 returns c = search needs

@@ -1,9 +1,18 @@
 -- `work::done`, by the event.
 -- Assumes nothing.
-use mathlib.Core.Path.{refl}
+use mathlib.Core.List.{List}
+use mathlib.Core.Path.{_≡_}
+use Prim.Native.Nat.{ℕ}
+use Rattle.eeprom.specs.declared.Fault.{Fault}
+use Rattle.listener.specs.declared.Event.{Event}
+use Rattle.chip.specs.Work.{Worked, done}
 use borrow.Author.Needs.{needs}
 use Rattle.chip.proofs.work.done.Statement.{statement}
 use Rattle.chip.proofs.work.done.Tie as tie
+
+by-event : (fault : Fault) (ram eeprom : List ℕ) {w : Worked} {e f : Event}
+    → e ≡ f → w ≡ done fault f ram eeprom → w ≡ done fault e ram eeprom
+by-event fault ram eeprom e h = rw e h
 
 enum-told : tie.Need-enum-told
 enum-told c = search needs
@@ -45,19 +54,19 @@ boot-requires : tie.Need-boot-requires
 boot-requires c κs = search needs
 
 returns : tie.Need-returns
-returns c = rw (c .enum-told .given .1) refl
+returns c = search by-event
 
 same-length : tie.Need-same-length
 same-length c = search needs
 
 returns-2 : tie.Need-returns-2
-returns-2 c = rw (c .before .before .before .before .before .event .given .1, c .before .before .stored .ensures .0, c .before .before .stored .ensures .1) refl
+returns-2 c = rw (c .before .before .stored .ensures .0, c .before .before .stored .ensures .1) (search by-event)
 
 same-length-2 : tie.Need-same-length-2
 same-length-2 c = search needs
 
 returns-3 : tie.Need-returns-3
-returns-3 c = rw (c .before .before .before .before .before .event2 .given .1, c .before .before .finished .ensures .0, c .before .before .finished .ensures .1) refl
+returns-3 c = rw (c .before .before .finished .ensures .0, c .before .before .finished .ensures .1) (search by-event)
 
 same-length-3 : tie.Need-same-length-3
 same-length-3 c = search needs
@@ -66,7 +75,7 @@ same-length-4 : tie.Need-same-length-4
 same-length-4 c = search needs
 
 returns-4 : tie.Need-returns-4
-returns-4 c = rw (c .before .before .before .before .before .enum-told2 .given .1, c .before .before .program .ensures .1, c .before .before .program .ensures .0) refl
+returns-4 c = rw (c .before .before .program .ensures .1, c .before .before .program .ensures .0) (search by-event)
 
 same-length-5 : tie.Need-same-length-5
 same-length-5 c = search needs
@@ -75,13 +84,13 @@ same-length-6 : tie.Need-same-length-6
 same-length-6 c = search needs
 
 returns-5 : tie.Need-returns-5
-returns-5 c = rw (c .before .before .before .enum-told3 .given .1, c .verify .ensures) refl
+returns-5 c = rw (c .verify .ensures) (search by-event)
 
 same-length-7 : tie.Need-same-length-7
 same-length-7 c = search needs
 
 returns-6 : tie.Need-returns-6
-returns-6 c = rw (c .before .before .enum-told4 .given .1, c .is-launchable .ensures) refl
+returns-6 c = rw (c .is-launchable .ensures) (search by-event)
 
 same-length-8 : tie.Need-same-length-8
 same-length-8 c = search needs
@@ -90,7 +99,7 @@ same-length-9 : tie.Need-same-length-9
 same-length-9 c = search needs
 
 returns-7 : tie.Need-returns-7
-returns-7 c = rw (c .before .before .before .before .before .enum-told5 .given .1, c .before .before .boot .ensures .1, c .before .before .boot .ensures .0) refl
+returns-7 c = rw (c .before .before .boot .ensures .1, c .before .before .boot .ensures .0) (search by-event)
 
 pub done-spec : {M : Type 1} → statement M
 done-spec =

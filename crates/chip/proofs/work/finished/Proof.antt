@@ -21,7 +21,10 @@ same-length : tie.Need-same-length
 same-length c = search needs
 
 returns : tie.Need-returns
-returns c = (rw (c .before .before .finish .ensures .1, c .before .before .finish .ensures .0) refl, rw (c .before .before .finish .ensures .0, c .before .before .before .before .before .before .before .store .ensures, c .before .before .before .before .before .before .before .before .before .to-bytes .ensures) refl)
+returns c =
+    let finish = c .before .before .finish .ensures in
+    let stored = c .before .before .before .before .before .before .before in
+    (rw (finish .1, finish .0) refl, rw (finish .0, stored .store .ensures, stored .before .before .to-bytes .ensures) refl)
 
 pub finished-spec : {M : Type 1} → statement M
 finished-spec =

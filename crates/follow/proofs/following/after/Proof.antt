@@ -1,9 +1,15 @@
 -- `follow::after`, phase by phase.
 -- Assumes nothing.
-use mathlib.Core.Path.{refl}
+use mathlib.Core.Path.{_≡_}
+use Rattle.load.specs.declared.Load.{Load}
+use Rattle.place.specs.declared.Phase.{Phase}
+use Rattle.follow.specs.Follow.{after}
 use borrow.Author.Needs.{needs}
 use Rattle.follow.proofs.following.after.Statement.{statement}
 use Rattle.follow.proofs.following.after.Tie as tie
+
+by-phase : (load : Load) {r p q : Phase} → p ≡ q → r ≡ after load q → r ≡ after load p
+by-phase load e h = rw e h
 
 enum-told : tie.Need-enum-told
 enum-told c = search needs
@@ -51,25 +57,25 @@ returns-3 : tie.Need-returns-3
 returns-3 c = search needs
 
 returns-4 : tie.Need-returns-4
-returns-4 c = rw (c .before .before .phase .given .1) (c .after-version .ensures)
+returns-4 c = search by-phase
 
 returns-5 : tie.Need-returns-5
-returns-5 c = rw (c .before .enum-told4 .given .1) (c .after-command .ensures)
+returns-5 c = search by-phase
 
 returns-6 : tie.Need-returns-6
-returns-6 c = rw (c .enum-told5 .given .1) refl
+returns-6 c = search by-phase
 
 returns-7 : tie.Need-returns-7
 returns-7 c = search needs
 
 returns-8 : tie.Need-returns-8
-returns-8 c = rw (c .enum-told7 .given .1) refl
+returns-8 c = search by-phase
 
 returns-9 : tie.Need-returns-9
-returns-9 c = rw (c .enum-told8 .given .1) refl
+returns-9 c = search by-phase
 
 returns-10 : tie.Need-returns-10
-returns-10 c = rw (c .before .phase2 .given .1) refl
+returns-10 c = search by-phase
 
 pub after-spec : {M : Type 1} → statement M
 after-spec =

@@ -1,6 +1,6 @@
 -- `follow::after_pair`, phase by phase.
 -- Assumes nothing.
-use mathlib.Core.Path.{_≡_, refl, sym, ap, _∙_}
+use mathlib.Core.Path.{_≡_}
 use Prim.Native.Nat.{ℕ}
 use Rattle.load.specs.declared.Load.{Load}
 use Rattle.units.specs.declared.Seen.{Seen}
@@ -11,11 +11,13 @@ use borrow.Author.Needs.{needs}
 use Rattle.follow.proofs.following.after_pair.Statement.{statement}
 use Rattle.follow.proofs.following.after_pair.Tie as tie
 
--- A phase in which what is seen does not count.
-plain : (load : Load) (phase p : Phase) (i : ℕ) (seen : Seen) (r : Place)
-    → phase ≡ p → onward load p i ≡ afterPair load p i seen → r ≡ onward load phase i → r ≡ afterPair load phase i seen
-plain load phase p i seen r e h q =
-    q ∙ ap (λ (x : Phase). onward load x i) e ∙ h ∙ ap (λ (x : Phase). afterPair load x i seen) (sym e)
+module _ (load : Load) (i : ℕ) (seen : Seen) {r : Place} {p q : Phase} (e : p ≡ q) where
+  by-phase : r ≡ afterPair load q i seen → r ≡ afterPair load p i seen
+  by-phase h = rw e h
+
+  -- A phase in which what is seen does not count.
+  plain : onward load q i ≡ afterPair load q i seen → r ≡ onward load p i → r ≡ afterPair load p i seen
+  plain h k = rw (e, ← h, ← e) k
 
 enum-told : tie.Need-enum-told
 enum-told c = search needs
@@ -78,40 +80,34 @@ onward-requires-7 : tie.Need-onward-requires-7
 onward-requires-7 c κs = search needs
 
 returns : tie.Need-returns
-returns c = plain _ _ _ _ _ _ (c .before .enum-told .given .1) refl (c .onward .ensures)
+returns c = search plain
 
 returns-2 : tie.Need-returns-2
-returns-2 c = plain _ _ _ _ _ _ (c .before .enum-told2 .given .1) refl (c .onward2 .ensures)
+returns-2 c = search plain
 
 returns-3 : tie.Need-returns-3
-returns-3 c = rw (c .before .enum-told3 .given .1) (c .after-connection .ensures)
+returns-3 c = search by-phase
 
 returns-4 : tie.Need-returns-4
-returns-4 c =
-    let a = c .before .before .before .before .args in
-    c .after-version-pair .ensures
-    ∙ ap (λ (p : Phase). afterPair (a .load) p (a .index) (a .seen)) (sym (c .before .before .phase .given .1))
+returns-4 c = search by-phase
 
 returns-5 : tie.Need-returns-5
-returns-5 c = plain _ _ _ _ _ _ (c .before .enum-told4 .given .1) refl (c .onward3 .ensures)
+returns-5 c = search plain
 
 returns-6 : tie.Need-returns-6
-returns-6 c = plain _ _ _ _ _ _ (c .before .enum-told5 .given .1) refl (c .onward4 .ensures)
+returns-6 c = search plain
 
 returns-7 : tie.Need-returns-7
-returns-7 c = plain _ _ _ _ _ _ (c .before .enum-told6 .given .1) refl (c .onward5 .ensures)
+returns-7 c = search plain
 
 returns-8 : tie.Need-returns-8
-returns-8 c = plain _ _ _ _ _ _ (c .before .enum-told7 .given .1) refl (c .onward6 .ensures)
+returns-8 c = search plain
 
 returns-9 : tie.Need-returns-9
-returns-9 c =
-    let a = c .before .before .before .before .args in
-    c .after-wait-pair .ensures
-    ∙ ap (λ (p : Phase). afterPair (a .load) p (a .index) (a .seen)) (sym (c .before .before .phase2 .given .1))
+returns-9 c = search by-phase
 
 returns-10 : tie.Need-returns-10
-returns-10 c = plain _ _ _ _ _ _ (c .before .enum-told8 .given .1) refl (c .onward7 .ensures)
+returns-10 c = search plain
 
 pub after-pair-spec : {M : Type 1} → statement M
 after-pair-spec =

@@ -1,12 +1,14 @@
 -- `follow::after_version_pair`, by what is seen.
 -- Assumes nothing.
-use mathlib.Core.Path.{_≡_, sym, ap, _∙_}
+use mathlib.Core.Path.{_≡_, _∙_}
 use Prim.Native.Nat.{ℕ, _+_, _/_, _<_}
 use native.Mathlib.Nat.{add-comm}
 use native.Mathlib.Omega.{arith}
 use lib.Bits.{bitOr, or-shifted-r}
-use Rattle.follow.specs.Follow.{onward, afterVersionPair}
-use Rattle.place.specs.declared.Phase.the-variants.{Version}
+use Rattle.units.specs.declared.Seen.{Seen}
+use Rattle.load.specs.declared.Load.{Load}
+use Rattle.place.specs.declared.Place.{Place}
+use Rattle.follow.specs.Follow.{afterVersionPair}
 use borrow.Author.Needs.{needs}
 use Rattle.follow.proofs.following.after_version_pair.Statement.{statement}
 use Rattle.follow.proofs.following.after_version_pair.Tie as tie
@@ -14,6 +16,9 @@ use Rattle.follow.proofs.following.after_version_pair.Tie as tie
 -- Halved, a version of 8 bits leaves its top bit free.
 top-set : (v : ℕ) → v < 256 → bitOr (v / 2) 128 ≡ v / 2 + 128
 top-set v h = or-shifted-r 1 7 (v / 2) (omega (arith, h)) ∙ add-comm 128 (v / 2)
+
+by-seen : (load : Load) (v i : ℕ) {r : Place} {s t : Seen} → s ≡ t → r ≡ afterVersionPair load v i t → r ≡ afterVersionPair load v i s
+by-seen load v i e h = rw e h
 
 enum-told : tie.Need-enum-told
 enum-told c = search needs
@@ -34,18 +39,15 @@ onward-requires-2 : tie.Need-onward-requires-2
 onward-requires-2 c κs = search needs
 
 returns : tie.Need-returns
-returns c = rw (c .before .enum-told .given .1) (c .opened .ensures)
+returns c = search by-seen
 
 returns-2 : tie.Need-returns-2
-returns-2 c = rw (c .before .enum-told2 .given .1) (c .onward .ensures)
+returns-2 c = search by-seen
 
 returns-3 : tie.Need-returns-3
 returns-3 c =
-    let a = c .before .before .before .args in
-    let short : a .version < 256 = search needs in
-    c .onward2 .ensures
-    ∙ ap (λ (v : ℕ). onward (a .load) (Version v) (a .index)) (top-set (a .version) short)
-    ∙ ap (afterVersionPair (a .load) (a .version) (a .index)) (sym (c .before .enum-told3 .given .1))
+    let short : c .before .before .before .args .version < 256 = search needs in
+    search (by-seen, ← top-set (c .before .before .before .args .version) short)
 
 pub after-version-pair-spec : {M : Type 1} → statement M
 after-version-pair-spec =

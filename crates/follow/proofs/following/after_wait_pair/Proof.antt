@@ -1,12 +1,18 @@
 -- `follow::after_wait_pair`, by what is seen.
 -- Assumes nothing.
-use mathlib.Core.Path.{sym, ap, _∙_}
-use Rattle.follow.specs.Follow.{opened, afterWaitPair}
-use Rattle.place.specs.declared.Phase.the-variants.{Ended}
-use Rattle.place.specs.declared.Ending.{Ending}
+use mathlib.Core.Path.{_≡_}
+use Prim.Native.Nat.{ℕ}
+use Rattle.units.specs.declared.Seen.{Seen}
+use Rattle.load.specs.declared.Load.{Load}
+use Rattle.place.specs.declared.Acknowledgement.{Acknowledgement}
+use Rattle.place.specs.declared.Place.{Place}
+use Rattle.follow.specs.Follow.{afterWaitPair}
 use borrow.Author.Needs.{needs}
 use Rattle.follow.proofs.following.after_wait_pair.Statement.{statement}
 use Rattle.follow.proofs.following.after_wait_pair.Tie as tie
+
+by-seen : (load : Load) (a : Acknowledgement) (i : ℕ) {r : Place} {s t : Seen} → s ≡ t → r ≡ afterWaitPair load a i t → r ≡ afterWaitPair load a i s
+by-seen load a i e h = rw e h
 
 enum-told : tie.Need-enum-told
 enum-told c = search needs
@@ -33,21 +39,13 @@ opened-requires-2 : tie.Need-opened-requires-2
 opened-requires-2 c κs = search needs
 
 returns : tie.Need-returns
-returns c = rw (c .before .enum-told .given .1) (c .onward .ensures)
+returns c = search by-seen
 
 returns-2 : tie.Need-returns-2
-returns-2 c =
-    let a = c .before .before .before .before .args in
-    c .opened .ensures
-    ∙ ap opened (c .before .after-good .ensures)
-    ∙ ap (afterWaitPair (a .load) (a .awaited) (a .index)) (sym (c .before .before .enum-told2 .given .1))
+returns-2 c = search (by-seen, ← (c .before .after-good .ensures))
 
 returns-3 : tie.Need-returns-3
-returns-3 c =
-    let a = c .before .before .before .before .args in
-    c .opened2 .ensures
-    ∙ ap (λ (e : Ending). opened (Ended e)) (c .before .bad .ensures)
-    ∙ ap (afterWaitPair (a .load) (a .awaited) (a .index)) (sym (c .before .before .enum-told3 .given .1))
+returns-3 c = search (by-seen, ← (c .before .bad .ensures))
 
 pub after-wait-pair-spec : {M : Type 1} → statement M
 after-wait-pair-spec =

@@ -1,13 +1,11 @@
 -- `pulses::listen` plays the pulse to a chip that has not ended.
 -- Assumes nothing.
-use mathlib.Core.Path.{ap, _∙_}
-use Prim.Native.Nat.{ℕ}
-use Rattle.units.specs.Units.{loopsIn}
+use mathlib.Core.Path.{_≡_}
 use Rattle.terms.proofs.Refusals.{answered}
-use Rattle.joined.specs.Joined.{roundedDown}
+use Rattle.chip.specs.Step.{left, toldStepped}
+use Rattle.joined.specs.Joined.{roundedDown, listened}
 use Rattle.joined.specs.Run.{state}
-use Rattle.joined.specs.declared.Joined.{Joined}
-use Rattle.joined.proofs.Turns.{listened-ended, listened-refused, listened-played}
+use Rattle.joined.proofs.Turns.{listened-ended, stepped-so, listened-refused, listened-played}
 use borrow.Author.Needs.{needs}
 use Rattle.joined.proofs.pulses.listen.Statement.{statement}
 use Rattle.joined.proofs.pulses.listen.Tie as tie
@@ -19,11 +17,7 @@ met-requires : tie.Need-met-requires
 met-requires c κs = search needs
 
 returns : tie.Need-returns
-returns c =
-    let a = c .before .before .before .before .before .before .args in
-    let ended = answered _ _ _ (c .before .before .is-deaf .ensures) (c .before .if1 .taken) in
-    ap (λ (x : Joined). state x (a .ram .now) (a .eeprom .now)) (c .met .ensures)
-    ∙ listened-ended (roundedDown (a .p) (a .l)) (a .joined) (a .ram .now) (a .eeprom .now) (a .sent) ended
+returns c = search (listened-ended, answered)
 
 waited-requires : tie.Need-waited-requires
 waited-requires c κs = search needs
@@ -49,6 +43,16 @@ enum-known-played c = search needs
 answered-requires : tie.Need-answered-requires
 answered-requires c κs = search needs
 
+-- Once the chip has answered: what its step left is what the pulse leaves.
+abbrev start : tie.After-step → tie.Start
+start c = c .before .before .before .before .before .before .before .before .before .before .before .before .before .before
+
+left-so : (c : tie.After-step)
+    → left (toldStepped (c .step .result)) (c .step .last .1 .0) (c .step .last .1 .1 .0)
+    ≡ listened (roundedDown (start c .args .p) (start c .args .l))
+    (state (start c .args .joined) (start c .args .ram .now) (start c .args .eeprom .now)) (start c .args .sent)
+left-so c = search (stepped-so, answered)
+
 same-length : tie.Need-same-length
 same-length c = search needs
 
@@ -56,29 +60,7 @@ same-length-2 : tie.Need-same-length-2
 same-length-2 c = search needs
 
 returns-2 : tie.Need-returns-2
-returns-2 c =
-    let a = c .before .before .before .before .before .before .before .before .before .before .before .before .before .before .before .before .before .before .before .before .before .args in
-    let step = c .before .before .before .before .before .before .before .step in
-    let listens = answered _ _ _ (c .before .before .before .before .before .before .before .before .before .before .before .before .before .before .before .before .before .is-deaf .ensures) (c .before .before .before .before .before .before .before .before .before .before .before .before .before .before .before .before .if1 .left) in
-    let low = c .before .before .before .before .before .before .before .before .before .before .to-loops .ensures ∙ ap (λ (n : ℕ). loopsIn n (a .p) (a .l)) (c .before .before .before .before .before .before .before .before .before .before .before .between .ensures) in
-    ap (λ (x : Joined). state x (step .last .1 .0) (step .last .1 .1 .0)) (c .met2 .ensures)
-    ∙ listened-refused
-    (roundedDown (a .p) (a .l))
-    (a .joined)
-    (a .ram .now)
-    (a .eeprom .now)
-    (a .sent)
-    listens
-    (step .result)
-    (step .last .1 .0)
-    (step .last .1 .1 .0)
-    (c .before .before .before .before .before .before .before .before .before .before .before .before .waited .result .0)
-    (c .before .before .before .before .before .before .before .before .before .before .to-loops .result .0)
-    (step .ensures)
-    (c .before .before .before .before .before .before .before .before .before .before .before .before .waited .ensures)
-    low
-    _
-    (c .before .enum-told .given .1)
+returns-2 c = search (listened-refused, left-so (c .before .before .before .before .before .before .before))
 
 same-length-3 : tie.Need-same-length-3
 same-length-3 c = search needs
@@ -87,29 +69,7 @@ same-length-4 : tie.Need-same-length-4
 same-length-4 c = search needs
 
 returns-3 : tie.Need-returns-3
-returns-3 c =
-    let a = c .before .before .before .before .before .before .before .before .before .before .before .before .before .before .before .before .before .before .before .before .before .before .args in
-    let step = c .before .before .before .before .before .before .before .before .step in
-    let listens = answered _ _ _ (c .before .before .before .before .before .before .before .before .before .before .before .before .before .before .before .before .before .before .is-deaf .ensures) (c .before .before .before .before .before .before .before .before .before .before .before .before .before .before .before .before .before .if1 .left) in
-    let low = c .before .before .before .before .before .before .before .before .before .before .before .to-loops .ensures ∙ ap (λ (n : ℕ). loopsIn n (a .p) (a .l)) (c .before .before .before .before .before .before .before .before .before .before .before .before .between .ensures) in
-    ap (λ (x : Joined). state x (step .last .1 .0) (step .last .1 .1 .0)) (c .answered .ensures)
-    ∙ listened-played
-    (roundedDown (a .p) (a .l))
-    (a .joined)
-    (a .ram .now)
-    (a .eeprom .now)
-    (a .sent)
-    listens
-    (step .result)
-    (step .last .1 .0)
-    (step .last .1 .1 .0)
-    (c .before .before .before .before .before .before .before .before .before .before .before .before .before .waited .result .0)
-    (c .before .before .before .before .before .before .before .before .before .before .before .to-loops .result .0)
-    (step .ensures)
-    (c .before .before .before .before .before .before .before .before .before .before .before .before .before .waited .ensures)
-    low
-    (c .before .before .played .given .0 .0)
-    (c .before .before .played .given .1)
+returns-3 c = search (listened-played, left-so (c .before .before .before .before .before .before .before .before))
 
 pub listen-spec : {M : Type 1} → statement M
 listen-spec =

@@ -1,15 +1,13 @@
 -- `pulses::play`: what is left of the run, from where it stands, is the whole run.
 -- Assumes nothing.
-use mathlib.Core.Path.{_≡_, refl, sym, ap, _∙_}
-use Prim.Native.Nat.{ℕ, _+_, _-_}
+use mathlib.Core.Path.{_≡_, refl, _∙_}
 use native.Mathlib.Omega.{arith}
 use lib.ListN.{length}
-use denote.Ref.{now}
 use borrow.Author.Needs.{needs}
 use Rattle.terms.proofs.Refusals.{answered}
 use Rattle.joined.specs.Joined.{roundedDown, played}
 use Rattle.joined.specs.Run.{budget, state}
-use Rattle.joined.proofs.Turns.{played-stops, played-goes}
+use Rattle.joined.proofs.Turns.{left-after, left-none, left-ended}
 use Rattle.joined.proofs.pulses.play.Statement.{statement}
 use Rattle.joined.proofs.pulses.play.Tie as tie
 
@@ -35,11 +33,7 @@ same-length-2 : tie.Need-same-length-2 Inv-loop μ-loop
 same-length-2 c = c .before .before .before .before .loop .inv .2
 
 returns : tie.Need-returns Inv-loop μ-loop
-returns c =
-    let a = c .before .before .before .before .before .before .before .before .args in
-    let loop = c .before .before .before .before .loop in
-    let ended = answered _ _ _ (c .before .has-ended .ensures) (c .if1 .taken) in
-    sym (played-stops (roundedDown (a .p) (a .l)) (now (a .image)) (loop .left) (state (loop .joined) (loop .ram) (loop .eeprom)) ended) ∙ loop .inv .0
+returns c = search (left-ended, answered)
 
 pulse-requires : tie.Need-pulse-requires Inv-loop μ-loop
 pulse-requires c κs = search needs
@@ -52,17 +46,12 @@ loop-less c = omega arith
 
 loop-again : tie.Need-loop-again Inv-loop μ-loop
 loop-again c =
-    let a = c .before .before .before .before .before .before .before .before .before .before .before .before .before .before .before .args in
-    let loop = c .before .before .before .before .before .before .before .before .before .before .before .loop in
     let pulse = c .before .before .before .before .pulse in
-    let goes = answered _ _ _ (c .before .before .before .before .before .before .before .before .has-ended .ensures) (c .before .before .before .before .before .before .before .if1 .left) in
-    let some : loop .left ≡ loop .left - 1 + 1 = omega (arith, c .before .before .before .before .before .before .before .before .before .before .loop-test .taken) in
-    let here = state (loop .joined) (loop .ram) (loop .eeprom) in
-    let measured = roundedDown (a .p) (a .l) in (
-      ap (played measured (now (a .image)) (loop .left - 1)) (pulse .ensures)
-          ∙ sym (played-goes measured (now (a .image)) (loop .left - 1) here goes)
-          ∙ ap (λ (n : ℕ). played measured (now (a .image)) n here) (sym some)
-          ∙ loop .inv .0,
+    let goes = c .before .before .before .before .before .before .before in
+    let ended = goes .before .has-ended .ensures in
+    let some = goes .before .before .before .loop-test .taken in
+    let loop = goes .before .before .before .before .loop in (
+      search (left-after, answered, goes .if1 .left, ended, some, loop .inv .0),
       pulse .kept .1 .1 .1 .1 .0 ∙ loop .inv .1,
       pulse .kept .1 .1 .1 .1 .1 .0 ∙ loop .inv .2,
     )
@@ -74,12 +63,7 @@ same-length-4 : tie.Need-same-length-4 Inv-loop μ-loop
 same-length-4 c = c .before .loop .inv .2
 
 returns-2 : tie.Need-returns-2 Inv-loop μ-loop
-unfolding played
-returns-2 c =
-    let a = c .before .before .before .before .before .args in
-    let loop = c .before .loop in
-    let none : loop .left ≡ 0 = omega (arith, c .loop-test .left) in
-    ap (λ (n : ℕ). played (roundedDown (a .p) (a .l)) (now (a .image)) n (state (loop .joined) (loop .ram) (loop .eeprom))) (sym none) ∙ loop .inv .0
+returns-2 c = search left-none
 
 pub play-spec : {M : Type 1} → statement M
 play-spec =

@@ -1,9 +1,6 @@
 -- `pulses::pulse` hands the host's pulse to the chip.
 -- Assumes nothing.
-use mathlib.Core.Path.{_∙_}
-use denote.Ref.{now}
-use Rattle.joined.specs.Joined.{roundedDown}
-use Rattle.joined.proofs.Turns.{pulse-refused, pulse-sent}
+use Rattle.joined.proofs.Turns.{pulse-told}
 use borrow.Author.Needs.{needs}
 use Rattle.joined.proofs.pulses.pulse.Statement.{statement}
 use Rattle.joined.proofs.pulses.pulse.Tie as tie
@@ -24,11 +21,7 @@ listen-requires : tie.Need-listen-requires
 listen-requires c κs = search needs
 
 returns : tie.Need-returns
-returns c =
-    let a = c .before .before .before .before .before .before .before .before .args in
-    let step = c .before .before .step in
-    let seen = c .before .before .before .seen in
-    pulse-refused (roundedDown (a .p) (a .l)) (now (a .image)) (a .joined) (a .ram .now) (a .eeprom .now) (step .result) _ (seen .result) (c .enum-told .given .1) (step .ensures) (seen .ensures)
+returns c = search pulse-told
 
 same-length : tie.Need-same-length
 same-length c = search needs
@@ -37,11 +30,7 @@ same-length-2 : tie.Need-same-length-2
 same-length-2 c = search needs
 
 returns-2 : tie.Need-returns-2
-returns-2 c =
-    let a = c .before .before .before .before .before .before .before .before .before .before .before .before .before .before .before .before .args in
-    let step = c .before .before .before .before .before .before .before .before .before .before .step in
-    let seen = c .before .before .before .before .before .before .before .before .before .before .before .seen in
-    c .before .before .before .before .listen .ensures ∙ pulse-sent (roundedDown (a .p) (a .l)) (now (a .image)) (a .joined) (a .ram .now) (a .eeprom .now) (step .result) (c .before .before .before .before .before .before .before .before .sent .given .0 .0) (seen .result) (c .before .before .before .before .before .before .before .before .sent .given .1) (step .ensures) (seen .ensures)
+returns-2 c = search pulse-told
 
 pub pulse-spec : {M : Type 1} → statement M
 pulse-spec =

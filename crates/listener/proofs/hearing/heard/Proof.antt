@@ -1,11 +1,18 @@
--- `hearing::heard`, by phase.
+-- `hearing::heard`: each arm answers for the phase that it matched, and so for the record's own.
 -- Assumes nothing.
-use mathlib.Core.Path.{sym, ap, _∙_}
+use mathlib.Core.Bool.{Bool}
+use mathlib.Core.Path.{_≡_}
+use Prim.Native.Nat.{ℕ}
 use Rattle.listener.specs.Heard.{heard}
+use Rattle.listener.specs.declared.Heard.{Heard}
+use Rattle.listener.specs.declared.Listener.{Listener}
 use Rattle.phases.specs.declared.Phase.{Phase}
 use borrow.Author.Needs.{needs}
 use Rattle.listener.proofs.hearing.heard.Statement.{statement}
 use Rattle.listener.proofs.hearing.heard.Tie as tie
+
+by-phase : (l : Listener) (low : ℕ) (bit : Bool) {r : Heard} {p q : Phase} → p ≡ q → r ≡ heard l q low bit → r ≡ heard l p low bit
+by-phase l low bit e h = rw e h
 
 enum-told : tie.Need-enum-told
 enum-told c = search needs
@@ -86,34 +93,34 @@ quiet-requires-3 : tie.Need-quiet-requires-3
 quiet-requires-3 c κs = search needs
 
 returns : tie.Need-returns
-returns c = c .quiet .ensures ∙ ap (λ (p : Phase). heard (c .before .before .before .args .listener) p (c .before .before .before .args .low .0) (c .before .before .before .args .bit)) (sym (c .before .enum-told .given .1))
+returns c = search by-phase
 
 returns-2 : tie.Need-returns-2
-returns-2 c = rw (c .quiet2 .ensures, c .before .with-threshold .ensures, c .before .before .threshold .ensures) (ap (λ (p : Phase). heard (c .before .before .before .before .before .before .args .listener) p (c .before .before .before .before .before .before .args .low .0) (c .before .before .before .before .before .before .args .bit)) (sym (c .before .before .before .before .phase .given .1)))
+returns-2 c = rw (c .quiet2 .ensures, c .before .with-threshold .ensures, c .before .before .threshold .ensures) (search by-phase)
 
 returns-3 : tie.Need-returns-3
-returns-3 c = c .compared .ensures ∙ ap (λ (p : Phase). heard (c .before .before .before .before .args .listener) p (c .before .before .before .before .args .low .0) (c .before .before .before .before .args .bit)) (sym (c .before .before .phase2 .given .1))
+returns-3 c = search by-phase
 
 returns-4 : tie.Need-returns-4
-returns-4 c = rw (c .led .ensures, c .before .seen .ensures) (ap (λ (p : Phase). heard (c .before .before .before .before .before .args .listener) p (c .before .before .before .before .before .args .low .0) (c .before .before .before .before .before .args .bit)) (sym (c .before .before .before .phase3 .given .1)))
+returns-4 c = search (by-phase, ← (c .before .seen .ensures))
 
 returns-5 : tie.Need-returns-5
-returns-5 c = c .replied .ensures ∙ ap (λ (p : Phase). heard (c .before .before .before .before .args .listener) p (c .before .before .before .before .args .low .0) (c .before .before .before .before .args .bit)) (sym (c .before .before .phase4 .given .1))
+returns-5 c = search by-phase
 
 returns-6 : tie.Need-returns-6
-returns-6 c = rw (c .read-command .ensures, c .before .grown .ensures) (ap (λ (p : Phase). heard (c .before .before .before .before .before .args .listener) p (c .before .before .before .before .before .args .low .0) (c .before .before .before .before .before .args .bit)) (sym (c .before .before .before .phase5 .given .1)))
+returns-6 c = search (by-phase, ← (c .before .grown .ensures))
 
 returns-7 : tie.Need-returns-7
-returns-7 c = rw (c .read-size .ensures, c .before .grown2 .ensures) (ap (λ (p : Phase). heard (c .before .before .before .before .before .args .listener) p (c .before .before .before .before .before .args .low .0) (c .before .before .before .before .before .args .bit)) (sym (c .before .before .before .phase6 .given .1)))
+returns-7 c = search (by-phase, ← (c .before .grown2 .ensures))
 
 returns-8 : tie.Need-returns-8
-returns-8 c = rw (c .read-long .ensures, c .before .grown3 .ensures) (ap (λ (p : Phase). heard (c .before .before .before .before .before .args .listener) p (c .before .before .before .before .before .args .low .0) (c .before .before .before .before .before .args .bit)) (sym (c .before .before .before .phase7 .given .1)))
+returns-8 c = search (by-phase, ← (c .before .grown3 .ensures))
 
 returns-9 : tie.Need-returns-9
-returns-9 c = c .aligned .ensures ∙ ap (λ (p : Phase). heard (c .before .before .before .before .args .listener) p (c .before .before .before .before .args .low .0) (c .before .before .before .before .args .bit)) (sym (c .before .before .phase8 .given .1))
+returns-9 c = search by-phase
 
 returns-10 : tie.Need-returns-10
-returns-10 c = c .quiet3 .ensures ∙ ap (λ (p : Phase). heard (c .before .before .before .before .args .listener) p (c .before .before .before .before .args .low .0) (c .before .before .before .before .args .bit)) (sym (c .before .before .phase9 .given .1))
+returns-10 c = search by-phase
 
 pub heard-spec : {M : Type 1} → statement M
 heard-spec =

@@ -1,10 +1,16 @@
 -- `late::timed_out`, by phase.
 -- Assumes nothing.
-use mathlib.Core.Path.{sym, ap, _∙_}
+use mathlib.Core.Path.{_≡_}
 use Rattle.listener.specs.Late.{afterLate}
+use Rattle.listener.specs.declared.Heard.{Heard}
+use Rattle.listener.specs.declared.Listener.{Listener}
+use Rattle.phases.specs.declared.Phase.{Phase}
 use borrow.Author.Needs.{needs}
 use Rattle.listener.proofs.late.timed_out.Statement.{statement}
 use Rattle.listener.proofs.late.timed_out.Tie as tie
+
+by-phase : (l : Listener) {r : Heard} {p q : Phase} → p ≡ q → r ≡ afterLate l q → r ≡ afterLate l p
+by-phase l e h = rw e h
 
 enum-told : tie.Need-enum-told
 enum-told c = search needs
@@ -67,34 +73,34 @@ quiet-requires : tie.Need-quiet-requires
 quiet-requires c κs = search needs
 
 returns : tie.Need-returns
-returns c = c .booting .ensures ∙ ap (afterLate (c .before .before .before .args .listener)) (sym (c .before .enum-told .given .1))
+returns c = search by-phase
 
 returns-2 : tie.Need-returns-2
-returns-2 c = c .booting2 .ensures ∙ ap (afterLate (c .before .before .before .args .listener)) (sym (c .before .enum-told2 .given .1))
+returns-2 c = search by-phase
 
 returns-3 : tie.Need-returns-3
-returns-3 c = c .booting3 .ensures ∙ ap (afterLate (c .before .before .before .args .listener)) (sym (c .before .enum-told3 .given .1))
+returns-3 c = search by-phase
 
 returns-4 : tie.Need-returns-4
-returns-4 c = c .within-reply .ensures ∙ ap (afterLate (c .before .before .before .before .args .listener)) (sym (c .before .before .phase .given .1))
+returns-4 c = search by-phase
 
 returns-5 : tie.Need-returns-5
-returns-5 c = c .within-reply2 .ensures ∙ ap (afterLate (c .before .before .before .before .args .listener)) (sym (c .before .before .phase2 .given .1))
+returns-5 c = search by-phase
 
 returns-6 : tie.Need-returns-6
-returns-6 c = c .booting4 .ensures ∙ ap (afterLate (c .before .before .before .args .listener)) (sym (c .before .enum-told4 .given .1))
+returns-6 c = search by-phase
 
 returns-7 : tie.Need-returns-7
-returns-7 c = c .booting5 .ensures ∙ ap (afterLate (c .before .before .before .args .listener)) (sym (c .before .enum-told5 .given .1))
+returns-7 c = search by-phase
 
 returns-8 : tie.Need-returns-8
-returns-8 c = c .booting6 .ensures ∙ ap (afterLate (c .before .before .before .args .listener)) (sym (c .before .enum-told6 .given .1))
+returns-8 c = search by-phase
 
 returns-9 : tie.Need-returns-9
-returns-9 c = c .booting7 .ensures ∙ ap (afterLate (c .before .before .before .args .listener)) (sym (c .before .enum-told7 .given .1))
+returns-9 c = search by-phase
 
 returns-10 : tie.Need-returns-10
-returns-10 c = c .quiet .ensures ∙ ap (afterLate (c .before .before .before .before .args .listener)) (sym (c .before .before .phase3 .given .1))
+returns-10 c = search by-phase
 
 pub timed-out-spec : {M : Type 1} → statement M
 timed-out-spec =

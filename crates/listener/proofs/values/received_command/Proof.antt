@@ -2,8 +2,6 @@
 -- Assumes nothing.
 use Rattle.terms.proofs.Refusals.{walk}
 use Rattle.listener.specs.Heard.{receivedCommand}
-use Rattle.terms.proofs.Refusals.{walk}
-use Rattle.listener.specs.Heard.{receivedCommand}
 use borrow.Author.Needs.{needs}
 use Rattle.listener.proofs.values.received_command.Statement.{statement}
 use Rattle.listener.proofs.values.received_command.Tie as tie

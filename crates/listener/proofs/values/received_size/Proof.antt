@@ -2,8 +2,6 @@
 -- Assumes nothing.
 use Rattle.terms.proofs.Refusals.{walk}
 use Rattle.listener.specs.Heard.{receivedSize}
-use Rattle.terms.proofs.Refusals.{walk}
-use Rattle.listener.specs.Heard.{receivedSize}
 use borrow.Author.Needs.{needs}
 use Rattle.listener.proofs.values.received_size.Statement.{statement}
 use Rattle.listener.proofs.values.received_size.Tie as tie

@@ -1,9 +1,16 @@
 -- `Phase::is_outside`, by phase.
 -- Assumes nothing.
-use mathlib.Core.Path.{refl}
+use mathlib.Core.Bool.{Bool}
+use mathlib.Core.Path.{_≡_}
+use Prim.Native.Nat.{ℕ}
+use Rattle.phases.specs.Ranges.{phaseOutside}
+use Rattle.phases.specs.declared.Phase.{Phase}
 use borrow.Author.Needs.{needs}
 use Rattle.phases.proofs.Phase.is_outside.Statement.{statement}
 use Rattle.phases.proofs.Phase.is_outside.Tie as tie
+
+by-phase : (command size : ℕ) {r : Bool} {p q : Phase} → p ≡ q → r ≡ phaseOutside command size q → r ≡ phaseOutside command size p
+by-phase command size e h = rw e h
 
 enum-told : tie.Need-enum-told
 enum-told c = search needs
@@ -60,31 +67,31 @@ returns : tie.Need-returns
 returns c = search needs
 
 returns-2 : tie.Need-returns-2
-returns-2 c = rw (c .before .before .before .self .given .1) refl
+returns-2 c = search by-phase
 
 returns-3 : tie.Need-returns-3
-returns-3 c = rw (c .before .before .self2 .given .1) (c .is-no-draw .ensures)
+returns-3 c = search by-phase
 
 returns-4 : tie.Need-returns-4
-returns-4 c = rw (c .before .before .self3 .given .1) (c .is-no-reply .ensures)
+returns-4 c = search by-phase
 
 returns-5 : tie.Need-returns-5
-returns-5 c = rw (c .before .before .self4 .given .1) (c .is-no-reply2 .ensures)
+returns-5 c = search by-phase
 
 returns-6 : tie.Need-returns-6
-returns-6 c = rw (c .before .self5 .given .1) refl
+returns-6 c = search by-phase
 
 returns-7 : tie.Need-returns-7
-returns-7 c = rw (c .before .before .self6 .given .1) (c .is-no-size-bit .ensures)
+returns-7 c = search by-phase
 
 returns-8 : tie.Need-returns-8
-returns-8 c = rw (c .before .before .self7 .given .1) (c .is-no-long-bit .ensures)
+returns-8 c = search by-phase
 
 returns-9 : tie.Need-returns-9
-returns-9 c = rw (c .before .before .self8 .given .1) (c .is-early .ensures)
+returns-9 c = search by-phase
 
 returns-10 : tie.Need-returns-10
-returns-10 c = rw (c .before .before .self9 .given .1, c .least-after .ensures) refl
+returns-10 c = search (by-phase, ← (c .least-after .ensures))
 
 pub is-outside-spec : {M : Type 1} → statement M
 is-outside-spec =

@@ -1,8 +1,5 @@
 -- `Session::start` answers as `Load::new` does.
 -- Assumes nothing.
-use mathlib.Core.Path.{sym, ap, _∙_}
-use Rattle.terms.specs.Refusals.{taken}
-use Rattle.load.specs.Load.{toldAccepted}
 use Rattle.session.proofs.Starts.{start-refused, start-taken}
 use borrow.Author.Needs.{needs}
 use Rattle.session.proofs.Session.start.Statement.{statement}
@@ -21,14 +18,10 @@ fresh-requires : tie.Need-fresh-requires
 fresh-requires c κs = search needs
 
 returns : tie.Need-returns
-returns c =
-    let told = sym (c .before .before .before .new .ensures) ∙ ap toldAccepted (c .before .n .given .1) in
-    sym (start-refused _ _ _ told)
+returns c = search start-refused
 
 returns-2 : tie.Need-returns-2
-returns-2 c =
-    let told = sym (c .before .before .before .before .new .ensures) ∙ ap toldAccepted (c .before .before .load .given .1) in
-    ap taken (c .fresh .ensures) ∙ sym (start-taken _ _ _ told)
+returns-2 c = search start-taken
 
 pub start-spec : {M : Type 1} → statement M
 start-spec =
