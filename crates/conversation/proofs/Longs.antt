@@ -18,7 +18,9 @@ use Rattle.conversation.specs.Final.{AllBytes}
 -- A list that is written out is tested.
 pub bytes-tested : (bytes : List ℕ) → areBytes bytes ≡ true → AllBytes bytes
 bytes-tested [] e i = omega arith
-bytes-tested (b ∷ bytes) e zero = ltb-true b 256 (and-eq-true-iff (ltb b 256) (areBytes bytes) .0 e .0)
+bytes-tested (b ∷ bytes) e zero =
+    let first : b < 256 = ltb-true b 256 (and-eq-true-iff (ltb b 256) (areBytes bytes) .0 e .0) in
+    omega (arith, first)
 bytes-tested (b ∷ bytes) e (suc i) = bytes-tested bytes (and-eq-true-iff (ltb b 256) (areBytes bytes) .0 e .1) i
 
 -- A byte's bits are those of any number that ends in it.

@@ -22,10 +22,10 @@ pub struct Done {
     pub fault: Fault,
 }
 
-// A memory's pages, and the bytes of one.
+// A memory's pages.
 pub const PAGES: u32 = 512;
 
-pub const PAGE: usize = 64;
+const PAGE: usize = Bytes::PAGE.0;
 
 impl Fault {
     // Whether a chip does not start with this fault: more than 512 pages, or an address of 32,768 or above.

@@ -1,13 +1,13 @@
 -- A host in its ranges steps exactly as its session does, with time beside it, and its sums fit.
 -- Assumes nothing.
-use mathlib.Core.Bool.{false}
+use mathlib.Core.Bool.{true, false}
 use mathlib.Core.List.{List}
 use mathlib.Core.Path.{_≡_, sym, ap, _∙_}
 use Prim.Native.Nat.{ℕ, _≤_}
 use native.Mathlib.Omega.{arith}
 use Rattle.terms.specs.Refusals.{refused, taken}
 use Rattle.terms.proofs.Refusals.{refused-alike, taken-alike, taken-exactly}
-use Rattle.terms.proofs.Tests.{when-false, either-false}
+use Rattle.terms.proofs.Tests.{when-true, when-false, either-false}
 use Rattle.settings.proofs.Exactly.{Fit, settings-within}
 use Rattle.session.specs.Step.{stepRows, pulseOf, sessionStep}
 use Rattle.session.specs.declared.Pulse.{Pulse}
@@ -16,6 +16,10 @@ use Rattle.units.specs.declared.Seen.{Seen}
 use Rattle.host.specs.Step.{late, hostOutside, timed, hostStep}
 use Rattle.host.specs.declared.Host.{Host}
 use Rattle.host.proofs.Legs.{not-late}
+
+pub step-outside : (h : Host) (image : List ℕ) (seen : Seen) → hostOutside h ≡ true → hostStep h image seen ≡ refused 13
+unfolding hostStep
+step-outside h image seen e = when-true _ _ e
 
 module _ (h : Host) (fine : hostOutside h ≡ false) where
   pub fits : Fit (h .settings .t) (h .settings .h) (h .settings .p)

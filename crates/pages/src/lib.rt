@@ -2,9 +2,10 @@
 ghost use mathlib.Core.Path.{_≡_};
 ghost use denote.Ref.{ptr};
 ghost use Rattle.pages.specs.Page.{chosen, pageBytes, pageStart};
-use eeprom::PAGE;
 use eeprom::PAGES;
 use units::Bytes;
+
+const PAGE: usize = Bytes::PAGE.0;
 
 // One of the two memories.
 pub enum Memory {

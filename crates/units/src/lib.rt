@@ -27,6 +27,9 @@ impl Bytes {
     // The bytes of the RAM, and of the EEPROM.
     pub const MEMORY: Bytes = Bytes(32_768);
 
+    // The bytes of a page of either.
+    pub const PAGE: Bytes = Bytes(64);
+
     // The whole longs in these bytes: one to three bytes left over do not count. More longs than the ROM can count are
     // `u32::MAX` longs.
     pub fn to_longs(self) -> Longs

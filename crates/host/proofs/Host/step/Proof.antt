@@ -6,14 +6,14 @@ use Prim.Native.Nat.{_<_, _≤_}
 use native.Mathlib.Omega.{arith}
 use denote.Ref.{now}
 use Rattle.terms.specs.Refusals.{taken}
-use Rattle.terms.proofs.Refusals.{walk, answered}
+use Rattle.terms.proofs.Refusals.{answered}
 use Rattle.settings.proofs.Exactly.{Fit}
 use Rattle.session.specs.Step.{sessionStep, toldStepped}
 use Rattle.session.specs.declared.Pulse.{Pulse}
-use Rattle.host.specs.Step.{hostOutside, hostStep}
+use Rattle.host.specs.Step.{hostOutside}
 use Rattle.host.specs.Time.{low, spacer}
 use Rattle.host.proofs.Legs.{low-most, spacer-most}
-use Rattle.host.proofs.Steps.{fits, step-refused, step-sent, time-most}
+use Rattle.host.proofs.Steps.{fits, step-outside, step-refused, step-sent, time-most}
 use borrow.Author.Needs.{needs}
 use Rattle.host.proofs.Host.step.Statement.{statement}
 use Rattle.host.proofs.Host.step.Tie as tie
@@ -46,8 +46,11 @@ some-tick : (c : tie.After-next) → 0 < start c .args .self .settings .p
 some-tick c = omega (arith, fit c .p-within .0)
 
 returns : tie.Need-returns
-unfolding hostStep
-returns c = search walk depth 12
+returns c =
+    let a = c .before .before .before .args in
+    let outside = answered _ _ _ (c .before .is-outside .ensures) (c .if1 .taken) in
+    let answer = sym (step-outside (a .self) (now (a .image)) (a .seen) outside) in
+    search answer
 
 step-requires : tie.Need-step-requires
 step-requires c κs = search needs
