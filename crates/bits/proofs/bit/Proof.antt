@@ -1,4 +1,4 @@
--- `Place::bit`, phase by phase.
+-- `bit`, phase by phase.
 -- Assumes nothing.
 use mathlib.Core.Bool.{Bool}
 use mathlib.Core.List.{List}

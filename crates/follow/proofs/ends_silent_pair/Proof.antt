@@ -1,4 +1,4 @@
--- `Place::ends_silent_pair`, phase by phase.
+-- `ends_silent_pair`, phase by phase.
 -- Assumes nothing.
 use borrow.Author.Needs.{needs}
 use Rattle.follow.proofs.ends_silent_pair.Statement.{statement}

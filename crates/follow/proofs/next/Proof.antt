@@ -1,4 +1,4 @@
--- `Place::next` looks at what is seen only for a second pulse.
+-- `next` looks at what is seen only for a second pulse.
 -- Assumes nothing.
 use Rattle.terms.proofs.Refusals.{walk}
 use Rattle.follow.specs.Follow.{next}

@@ -1,4 +1,4 @@
--- `load::outside` is the test of rows 1 to 3.
+-- `outside` is the test of rows 1 to 3.
 -- Assumes nothing.
 use Rattle.terms.proofs.Refusals.{walk}
 use Rattle.settings.specs.Settings.{outside}

@@ -1,4 +1,4 @@
--- `eeprom::accepted` tests the lengths, then goes by the fault.
+-- `faults::accepted` tests the lengths, then goes by the fault.
 -- Assumes nothing.
 use Rattle.terms.proofs.Refusals.{walk}
 use Rattle.eeprom.specs.Eeprom.{accepted}

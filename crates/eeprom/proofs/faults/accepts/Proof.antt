@@ -1,4 +1,4 @@
--- `eeprom::accepts` goes by the fault.
+-- `faults::accepts` goes by the fault.
 -- Assumes nothing.
 use borrow.Author.Needs.{needs}
 use Rattle.eeprom.proofs.faults.accepts.Statement.{statement}

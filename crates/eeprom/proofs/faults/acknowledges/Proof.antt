@@ -1,4 +1,4 @@
--- `eeprom::acknowledges` goes by the fault.
+-- `faults::acknowledges` goes by the fault.
 -- Assumes nothing.
 use mathlib.Core.Path.{refl}
 use borrow.Author.Needs.{needs}

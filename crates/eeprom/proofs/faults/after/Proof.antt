@@ -1,4 +1,4 @@
--- `eeprom::after` goes by the fault.
+-- `faults::after` goes by the fault.
 -- Assumes nothing.
 use mathlib.Core.Path.{refl}
 use borrow.Author.Needs.{needs}

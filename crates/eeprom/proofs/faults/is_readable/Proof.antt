@@ -1,4 +1,4 @@
--- `eeprom::is_readable` tests the lengths, then the fault.
+-- `faults::is_readable` tests the lengths, then the fault.
 -- Assumes nothing.
 use Rattle.terms.proofs.Refusals.{walk}
 use Rattle.eeprom.specs.Eeprom.{readable}

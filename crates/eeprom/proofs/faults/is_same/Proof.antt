@@ -1,4 +1,4 @@
--- `eeprom::is_same` has found no byte that differs among those it passed.
+-- `faults::is_same` has found no byte that differs among those it passed.
 -- Assumes nothing.
 use mathlib.Core.Path.{_≡_, sym, ap, _∙_}
 use Prim.Native.Nat.{ℕ, _-_, _≤_, _<_}

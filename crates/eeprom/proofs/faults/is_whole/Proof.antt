@@ -1,4 +1,4 @@
--- `eeprom::is_whole` tests the two lengths in turn.
+-- `faults::is_whole` tests the two lengths in turn.
 -- Assumes nothing.
 use Rattle.terms.proofs.Refusals.{walk}
 use Rattle.eeprom.specs.Eeprom.{whole}

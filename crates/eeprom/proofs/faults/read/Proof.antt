@@ -1,4 +1,4 @@
--- `eeprom::read` goes by the fault.
+-- `faults::read` goes by the fault.
 -- Assumes nothing.
 use mathlib.Core.Path.{refl}
 use borrow.Author.Needs.{needs}

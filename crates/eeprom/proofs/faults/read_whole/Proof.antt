@@ -1,4 +1,4 @@
--- `eeprom::read_whole`: after each turn the first bytes, so many as turns were made, are those that the EEPROM reads as.
+-- `faults::read_whole`: after each turn the first bytes, so many as turns were made, are those that the EEPROM reads as.
 -- Assumes nothing.
 use mathlib.Core.List.{_++_}
 use mathlib.Core.Path.{_≡_, refl, sym, _∙_}

@@ -1,4 +1,4 @@
--- `eeprom::read_with`: a byte that is stored is read where it was stored, and every other stays.
+-- `faults::read_with`: a byte that is stored is read where it was stored, and every other stays.
 -- Assumes nothing.
 use mathlib.Core.Path.{sym}
 use lib.Seq.{getD-set-same, getD-set-other}

@@ -1,4 +1,4 @@
--- `follow::after`, phase by phase.
+-- `following::after`, phase by phase.
 -- Assumes nothing.
 use mathlib.Core.Path.{_≡_}
 use Rattle.load.specs.declared.Load.{Load}

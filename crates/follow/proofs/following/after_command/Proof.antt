@@ -1,4 +1,4 @@
--- `follow::after_command` tells command 0 from the others.
+-- `following::after_command` tells command 0 from the others.
 -- Assumes nothing.
 use Rattle.terms.proofs.Refusals.{walk}
 use Rattle.follow.specs.Follow.{afterCommand}

@@ -1,4 +1,4 @@
--- `follow::after_connection` goes on only where the bit is the one expected.
+-- `following::after_connection` goes on only where the bit is the one expected.
 -- Assumes nothing.
 use Rattle.terms.proofs.Refusals.{walk}
 use Rattle.follow.specs.Follow.{afterConnection}

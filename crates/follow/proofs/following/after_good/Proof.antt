@@ -1,4 +1,4 @@
--- `follow::after_good`, by what is acknowledged.
+-- `following::after_good`, by what is acknowledged.
 -- Assumes nothing.
 use mathlib.Core.Path.{refl}
 use borrow.Author.Needs.{needs}

@@ -1,4 +1,4 @@
--- `follow::after_pair`, phase by phase.
+-- `following::after_pair`, phase by phase.
 -- Assumes nothing.
 use mathlib.Core.Path.{_≡_}
 use Prim.Native.Nat.{ℕ}

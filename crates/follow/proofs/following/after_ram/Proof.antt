@@ -1,4 +1,4 @@
--- `follow::after_ram` tells command 1 from 2 and 3.
+-- `following::after_ram` tells command 1 from 2 and 3.
 -- Assumes nothing.
 use Rattle.terms.proofs.Refusals.{walk}
 use Rattle.follow.specs.Follow.{afterRam}

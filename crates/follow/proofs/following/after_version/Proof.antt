@@ -1,4 +1,4 @@
--- `follow::after_version` tells version 1 from the others.
+-- `following::after_version` tells version 1 from the others.
 -- Assumes nothing.
 use Rattle.terms.proofs.Refusals.{walk}
 use Rattle.follow.specs.Follow.{afterVersion}

@@ -1,4 +1,4 @@
--- `follow::after_version_pair`, by what is seen.
+-- `following::after_version_pair`, by what is seen.
 -- Assumes nothing.
 use mathlib.Core.Path.{_≡_, _∙_}
 use Prim.Native.Nat.{ℕ, _+_, _/_, _<_}

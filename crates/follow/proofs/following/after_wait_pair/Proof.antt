@@ -1,4 +1,4 @@
--- `follow::after_wait_pair`, by what is seen.
+-- `following::after_wait_pair`, by what is seen.
 -- Assumes nothing.
 use mathlib.Core.Path.{_≡_}
 use Prim.Native.Nat.{ℕ}

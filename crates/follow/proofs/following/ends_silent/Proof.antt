@@ -1,4 +1,4 @@
--- `follow::ends_silent` looks at what is seen only for a second pulse.
+-- `following::ends_silent` looks at what is seen only for a second pulse.
 -- Assumes nothing.
 use Rattle.terms.proofs.Refusals.{walk}
 use Rattle.follow.specs.Follow.{endsSilent}

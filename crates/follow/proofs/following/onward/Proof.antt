@@ -1,4 +1,4 @@
--- `follow::onward` opens what follows only after the last pulse of a phase.
+-- `following::onward` opens what follows only after the last pulse of a phase.
 -- Assumes nothing.
 use Rattle.terms.proofs.Refusals.{walk}
 use Rattle.follow.specs.Follow.{onward}

@@ -1,4 +1,4 @@
--- `around_first` looks at a second pulse alone.
+-- `pulses::around_first` looks at a second pulse alone.
 -- Assumes nothing.
 use Rattle.terms.proofs.Refusals.{walk}
 use Rattle.joined.specs.Joined.{aroundFirst}

@@ -1,4 +1,4 @@
--- `eeprom` ends with the last byte of S, and every store is in the array.
+-- `sample::eeprom` ends with the last byte of S, and every store is in the array.
 -- Assumes nothing.
 use mathlib.Core.Path.{_≡_}
 use Prim.Native.Nat.{_-_, _≤_}

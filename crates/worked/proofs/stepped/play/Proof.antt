@@ -1,4 +1,4 @@
--- `play` ends after its pulses.
+-- `stepped::play` ends after its pulses.
 -- Assumes nothing.
 use Prim.Native.Nat.{_-_, _≤_}
 use native.Mathlib.Omega.{arith}
