@@ -55,6 +55,7 @@ timed h p = record {
   };
   fall = tick (h .settings) (h .time);
   rise = tick (h .settings) (h .time + low (h .settings) (p .bit));
+  risen = h .time + low (h .settings) (p .bit);
 }
 
 -- The pulse in time, or the first row that applies.

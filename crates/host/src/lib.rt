@@ -27,11 +27,12 @@ pub enum Begun {
     Taken(Host),
 }
 
-// A pulse sent: the host after it, and the ticks of its two edges.
+// A pulse sent: the host after it, the ticks of its two edges, and the exact time of its rise, in ps.
 pub struct Sent {
     pub host: Host,
     pub fall: Ticks,
     pub rise: Ticks,
+    pub risen: u64,
 }
 
 // What `Host::step` answers: a refusal by its number, or the pulse that it sends.
@@ -79,6 +80,7 @@ impl Host {
                     host: self,
                     fall: time::tick(self.settings, fall),
                     rise: time::tick(self.settings, rise),
+                    risen: rise,
                 })
             }
         }

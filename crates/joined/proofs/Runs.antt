@@ -48,7 +48,7 @@ module _ (t h p command : ℕ) (image : List ℕ) (fault : Fault) (l : ℕ) (ram
           let end = run-ends (roundedDown p l) image t h p command host (sym host-taken) ram eeprom fault chip (sym chip-taken) in
           ap hostEnded (u ∙ end .run) ∙ end .ended
 
-      pub run-finished : (o : Outcome) → o ≡ outcome (j .host) (j .chip) (j .rise .0)
+      pub run-finished : (o : Outcome) → o ≡ outcome (j .host) (j .chip) (j .rise .0) (j .risen)
           → left (taken o) ram′ eeprom′ ≡ runOf t h p command image fault l ram eeprom
       run-finished o is =
           ap (λ (x : Outcome). left (taken x) ram′ eeprom′) is

@@ -34,6 +34,7 @@ backRan = back ran.Refused (λ o. ran.Finished (record {
   ones = o .ones;
   zeros = o .zeros;
   ticks = record { 0 = o .ticks };
+  risen = o .risen;
   host = endingOf (o .host);
   chip = o .chip;
 }))

@@ -21,13 +21,14 @@ use Rattle.phases.specs.Phases as chip
 use Rattle.chip.specs.Step.{Reply, Left, left, chipStep}
 use Rattle.chip.specs.declared.Chip.{Chip}
 
--- A host and a chip with its memories, the tick of the last rise, and what the chip replied to the last pulse.
+-- A host and a chip with its memories, the tick of the last rise and its exact time, and what the chip replied to the last pulse.
 pub record State : Type 0 where
   pub host : Host
   pub chip : Chip
   pub ram : List ℕ
   pub eeprom : List ℕ
   pub rise : ℕ
+  pub risen : ℕ
   pub reply : Seen
 
 -- A way of measuring: the loops that are counted for some ticks, by the number of the measurement. Pulse n, from 0, has the
@@ -88,6 +89,7 @@ met c sent l = record {
   ram = l .ram;
   eeprom = l .eeprom;
   rise = sent .rise .0;
+  risen = sent .risen;
   reply = seen (replied c (l .answer) .reply);
 }
 
@@ -115,4 +117,4 @@ played measured image (suc n) s = when (hostEnded s) s (played measured image n 
 
 -- Before the first pulse.
 abbrev pub begun : Host → Chip → List ℕ → List ℕ → State
-begun host chip ram eeprom = record { host = host; chip = chip; ram = ram; eeprom = eeprom; rise = 0; reply = Silence }
+begun host chip ram eeprom = record { host = host; chip = chip; ram = ram; eeprom = eeprom; rise = 0; risen = 0; reply = Silence }

@@ -35,21 +35,23 @@ chipEnd (at.Long n k bits) = chip.Listening
 chipEnd (at.Align a) = chip.Listening
 chipEnd (at.Ended e) = chip.Ended e
 
--- What a run comes to: pulses sent, bits 1, bits 0, the tick of the last rise, and where host and chip stand.
+-- What a run comes to: pulses sent, bits 1, bits 0, the tick of the last rise and its exact time, and where host and chip stand.
 pub record Outcome : Type 0 where
   pub pulses : ℕ
   pub ones : ℕ
   pub zeros : ℕ
   pub ticks : ℕ
+  pub risen : ℕ
   pub host : Phase
   pub chip : ChipEnd
 
-abbrev pub outcome : Host → Chip → ℕ → Outcome
-outcome host chip rise = record {
+abbrev pub outcome : Host → Chip → ℕ → ℕ → Outcome
+outcome host chip rise risen = record {
   pulses = host .session .pulses;
   ones = host .session .ones;
   zeros = host .session .zeros;
   ticks = rise;
+  risen = risen;
   host = host .session .place .phase;
   chip = chipEnd (chip .listener .phase);
 }
@@ -64,7 +66,7 @@ abbrev pub left : Answer Outcome → List ℕ → List ℕ → Left
 left answer ram eeprom = record { answer = answer; ram = ram; eeprom = eeprom }
 
 abbrev pub finished : State → Left
-finished s = left (taken (outcome (s .host) (s .chip) (s .rise))) (s .ram) (s .eeprom)
+finished s = left (taken (outcome (s .host) (s .chip) (s .rise) (s .risen))) (s .ram) (s .eeprom)
 
 -- No session has more pulses than 264,362: 32,760 bytes, and every wait to its last pair.
 abbrev pub budget : ℕ
@@ -91,6 +93,7 @@ toldReport r = record {
   ones = r .ones;
   zeros = r .zeros;
   ticks = r .ticks .0;
+  risen = r .risen;
   host = place.Ended (r .host);
   chip = r .chip;
 }
@@ -101,8 +104,8 @@ toldRan (ran.Finished r) = taken (toldReport r)
 
 -- Host and chip as the code keeps them, with the memories that are lent to it.
 abbrev pub state : Joined → List ℕ → List ℕ → State
-state j ram eeprom = record { host = j .host; chip = j .chip; ram = ram; eeprom = eeprom; rise = j .rise .0; reply = j .reply }
+state j ram eeprom = record { host = j .host; chip = j .chip; ram = ram; eeprom = eeprom; rise = j .rise .0; risen = j .risen; reply = j .reply }
 
 -- Both sides after a pulse.
 abbrev pub after : Sent → Chip → Seen → Joined
-after sent chip reply = record { host = sent .host; chip = chip; rise = sent .rise; reply = reply }
+after sent chip reply = record { host = sent .host; chip = chip; rise = sent .rise; risen = sent .risen; reply = reply }

@@ -23,12 +23,14 @@ pub enum ChipEnd {
     Ended(phases::Ending),
 }
 
-// What a run came to: the pulses sent, the bits 1 and 0 among them, the tick of the last rise, and both endings.
+// What a run came to: the pulses sent, the bits 1 and 0 among them, the tick of the last rise and its exact time, in ps, and both
+// endings.
 pub struct Report {
     pub pulses: u32,
     pub ones: u32,
     pub zeros: u32,
     pub ticks: Ticks,
+    pub risen: u64,
     pub host: Ending,
     pub chip: ChipEnd,
 }
@@ -39,11 +41,12 @@ pub enum Ran {
     Finished(Report),
 }
 
-// Host and chip between two pulses: the tick of the last rise, and what the chip replied to the last pulse.
+// Host and chip between two pulses: the tick of the last rise and its exact time, in ps, and what the chip replied to the last pulse.
 struct Joined {
     host: Host,
     chip: Chip,
     rise: Ticks,
+    risen: u64,
     reply: Seen,
 }
 
@@ -72,6 +75,7 @@ pub fn run(
                     host,
                     chip,
                     rise: Ticks(0),
+                    risen: 0,
                     reply: Seen::Silence,
                 };
                 let end = pulses::play(start, image, p, l, ram, eeprom);
@@ -83,7 +87,7 @@ pub fn run(
 
 fn reported(end: Joined) -> Report
     requires { ⌜ ended (end .host .session .place .phase) ≡ true ⌝ }
-    ensures { λ r. ⌜ toldReport r ≡ outcome (end .host) (end .chip) (end .rise .0) ⌝ }
+    ensures { λ r. ⌜ toldReport r ≡ outcome (end .host) (end .chip) (end .rise .0) (end .risen) ⌝ }
 {
     let host = end.host;
     let session = host.session;
@@ -96,6 +100,7 @@ fn reported(end: Joined) -> Report
         ones: session.ones,
         zeros: session.zeros,
         ticks,
+        risen: end.risen,
         host: ending(phase),
         chip: chip_end(chip),
     }

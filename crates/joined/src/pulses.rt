@@ -165,6 +165,7 @@ fn met(sent: Sent, chip: Chip, reply: Seen) -> Joined
         host,
         chip,
         rise,
+        risen: sent.risen,
         reply,
     }
 }

@@ -162,16 +162,24 @@ module _ (s : Settings) (load : Load) (size : ℕ) (lent : ℕ → List ℕ) (se
       next-host = sym (hosts-suc n here h) ∙ ap hosts (sym (add-one n))
 
       step-is : hostStep (hosts n) (lent n) (seen n)
-          ≡ taken (record { host = hosts (n + 1); fall = tick s (time (2 * n)); rise = tick s (time (2 * n + 1)) })
+          ≡ taken (record {
+            host = hosts (n + 1);
+            fall = tick s (time (2 * n));
+            rise = tick s (time (2 * n + 1));
+            risen = time (2 * n + 1);
+          })
       step-is =
           let ticks : (a b : ℕ) → a ≡ b → tick (hosts n .settings) a ≡ tick s b =
           λ a b e. ap (λ (y : Settings). tick y a) (here .set) ∙ ap (tick s) e in
           let sent = timed (hosts n) now-sending in
+          let by : Host → Ticks → Ticks → ℕ → Answer Sent = λ host fall rise risen.
+          taken (record { host = host; fall = fall; rise = rise; risen = risen }) in
+          let rise = rises n (hosts n) here h in
           host-sends n (hosts n) here h
-          ∙ ap (λ (y : Host). taken (record { host = y; fall = sent .fall; rise = sent .rise })) next-host
-          ∙ ap (λ (y : Ticks). taken (record { host = hosts (n + 1); fall = y; rise = sent .rise })) (ticks _ _ (here .falls))
-          ∙ ap (λ (y : Ticks). taken (record { host = hosts (n + 1); fall = tick s (time (2 * n)); rise = y }))
-          (ticks _ _ (rises n (hosts n) here h))
+          ∙ ap (λ (y : Host). by y (sent .fall) (sent .rise) (sent .risen)) next-host
+          ∙ ap (λ (y : Ticks). by (hosts (n + 1)) y (sent .rise) (sent .risen)) (ticks _ _ (here .falls))
+          ∙ ap (λ (y : Ticks). by (hosts (n + 1)) (tick s (time (2 * n))) y (sent .risen)) (ticks _ _ rise)
+          ∙ ap (by (hosts (n + 1)) (tick s (time (2 * n))) (tick s (time (2 * n + 1)))) rise
 
       pulse-is : sessionStep (hosts n .session) (lent n) (seen n)
           ≡ taken (record { bit = mark n .bit; silent = mark n .silent; session = hosts (n + 1) .session })

@@ -47,10 +47,15 @@ module _ (settings : Settings) (command size : ℕ) (lent : ℕ → List ℕ) (s
     -- The host before call n.
     pub hosts : ℕ → Host
     pub first : hosts 0 ≡ x
-    -- Call n sends pulse n, with the ticks of its edges.
+    -- Call n sends pulse n, with the ticks of its edges, and the exact time of the second.
     pub steps : (n : ℕ) → n < many
         → hostStep (hosts n) (lent n) (seen n)
-        ≡ taken (record { host = hosts (n + 1); fall = tick settings (edge (2 * n)); rise = tick settings (edge (2 * n + 1)) })
+        ≡ taken (record {
+          host = hosts (n + 1);
+          fall = tick settings (edge (2 * n));
+          rise = tick settings (edge (2 * n + 1));
+          risen = edge (2 * n + 1);
+        })
     pub pulses : (n : ℕ) → n < many
         → sessionStep (hosts n .session) (lent n) (seen n)
         ≡ taken (record { bit = pulse n .bit; silent = pulse n .silent; session = hosts (n + 1) .session })

@@ -117,7 +117,7 @@ module _ (t h p command : ℕ) (image : List ℕ) (host : Host) (ram eeprom : Li
       ∙ ap finished (ends .run ∙ ap (λ (n : ℕ). after (roundedDown p l) image n start) ends-there)
 
   abbrev came-to : Outcome
-  came-to = outcome (last .host) (last .chip) (last .rise)
+  came-to = outcome (last .host) (last .chip) (last .rise) (last .risen)
 
   answers : Answers t h p command image l ram eeprom came-to
   answers = record {

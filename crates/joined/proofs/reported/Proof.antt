@@ -22,6 +22,7 @@ returns c =
       ones = a .host .session .ones;
       zeros = a .host .session .zeros;
       ticks = a .rise .0;
+      risen = a .risen;
       host = host;
       chip = chip;
     } in
