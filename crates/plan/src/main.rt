@@ -1,0 +1,123 @@
+// Plans the image on standard input by the bench figures that it is given as arguments, T H P LOOP COMMAND, plays it to a chip whose EEPROM
+// has no fault, and prints what came of it: the lines of `planned` and the exact seconds, or the number of a refusal.
+use eeprom::Fault;
+use figures::Figure;
+use joined::ChipEnd;
+use joined::Ran;
+use joined::Report;
+use phases::Ending;
+
+fn main() {
+    let t = argument(1);
+    let h = argument(2);
+    let p = argument(3);
+    let l = argument(4);
+    let command = argument(5);
+    let Figure::Number(t) = t else {
+        return usage();
+    };
+    let Figure::Number(h) = h else {
+        return usage();
+    };
+    let Figure::Number(p) = p else {
+        return usage();
+    };
+    let Figure::Number(l) = l else {
+        return usage();
+    };
+    let Figure::Number(command) = command else {
+        return usage();
+    };
+    plan(t, h, p, l, command);
+}
+
+// An argument by its number. One that is missing, or too long for a figure, is none.
+fn argument(i: usize) -> Figure {
+    let mut text = [0u8; 20];
+    let n = os::arg(i, &mut text);
+    figures::read(&text[..n])
+}
+
+fn usage() {
+    io::write_all(
+        2,
+        b"plan: five numbers are wanted, T H P LOOP COMMAND, and an image on standard input\n",
+    );
+}
+
+fn plan(t: u32, h: u32, p: u32, l: u32, command: u32) {
+    // One byte more than the longest image has, so that a longer input is seen to be too long.
+    let mut image = [0u8; 32_761];
+    let n = io::read_full(0, &mut image);
+    let mut ram = [0u8; 32_768];
+    let mut eeprom = [0u8; 32_768];
+    match joined::run(
+        t,
+        h,
+        p,
+        command,
+        &image[..n],
+        Fault::None,
+        l,
+        &mut ram,
+        &mut eeprom,
+    ) {
+        Ran::Refused(n) => line(b"refused ", n as u64),
+        Ran::Finished(report) => print(report),
+    }
+}
+
+fn print(report: Report) {
+    line(b"pulses ", report.pulses as u64);
+    line(b"ones ", report.ones as u64);
+    line(b"zeros ", report.zeros as u64);
+    line(b"ticks ", report.ticks.0);
+    let host = report.host;
+    line(b"host ", host.number() as u64);
+    let chip = report.chip;
+    print_chip(chip);
+    print_seconds(report.risen);
+}
+
+fn print_chip(chip: ChipEnd) {
+    match chip {
+        ChipEnd::Listening => say(b"chip listening\n"),
+        ChipEnd::Ended(ending) => print_ending(ending),
+    }
+}
+
+fn print_ending(ending: Ending) {
+    match ending {
+        Ending::Launched => say(b"chip launched\n"),
+        Ending::Booted => say(b"chip booted\n"),
+        Ending::Shut => say(b"chip shut\n"),
+        Ending::Off => say(b"chip off\n"),
+    }
+}
+
+const PS_PER_NS: u64 = 1_000;
+
+const NS_PER_S: u64 = 1_000_000_000;
+
+// A time in ps as seconds, to the nanosecond: every low and every spacer is a whole number of them.
+fn print_seconds(time: u64) {
+    let ns = time / PS_PER_NS;
+    say(b"seconds ");
+    io::print_decimal(1, ns / NS_PER_S);
+    say(b".");
+    // With a 1 before them the nine digits have all their zeros.
+    let mut text = [0u8; 20];
+    let n = io::decimal(NS_PER_S + ns % NS_PER_S, &mut text);
+    say(&text[1..n]);
+    say(b"\n");
+}
+
+fn line(name: &[u8], n: u64) {
+    say(name);
+    io::print_decimal(1, n);
+    say(b"\n");
+}
+
+fn say(words: &[u8]) {
+    io::write_all(1, words);
+}
