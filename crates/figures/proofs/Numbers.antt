@@ -2,7 +2,7 @@
 -- Assumes nothing.
 use mathlib.Core.Bool.{Bool, true, false}
 use mathlib.Core.List.{List, [], _∷_}
-use mathlib.Core.Path.{_≡_, refl, sym, _∙_}
+use mathlib.Core.Path.{_≡_, refl}
 use Prim.Native.Nat.{ℕ, suc, _+_, _≤_, _<_}
 use native.Mathlib.Numerals.{add-one}
 use native.Mathlib.Omega.{arith}
@@ -34,6 +34,7 @@ unfolding valueFrom
 value-grows value [] = omega arith
 value-grows value (byte ∷ text) = let rest = value-grows (grown value byte) text in omega (arith, rest)
 
+-- The second test fails.
 neither : (b : Bool) → both b false ≡ false
 unfolding both
 neither true = refl
