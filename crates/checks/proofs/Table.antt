@@ -19,7 +19,7 @@ use Rattle.follow.specs.Follow.{onward, next}
 use Rattle.place.specs.Ranges.{placeOutside}
 use Rattle.sequence.specs.Sequence.{advanced, state, draw, draws}
 use Rattle.session.specs.Ranges.{sessionOutside}
-use Rattle.session.specs.Step.{otherImage}
+use Rattle.load.specs.Load.{otherImage}
 use Rattle.checks.specs.Sample.{sample}
 use Rattle.checks.specs.Table.{startEdges, Checks}
 

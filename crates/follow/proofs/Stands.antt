@@ -97,7 +97,7 @@ module _ (load : Load) (long : 1 ≤ load .command → 16 ≤ load .length .0) w
     after-stands (Wait a) on s = ended-stands (Wait a) on s Lost (omega arith)
     after-stands (Ended e) on s = absurd (true≢false on)
 
-    onward-stands : (phase : Phase) → ended phase ≡ false → Here phase → Then (onward load phase i)
+    pub onward-stands : (phase : Phase) → ended phase ≡ false → Here phase → Then (onward load phase i)
     unfolding onward
     onward-stands phase on s =
         when-elim

@@ -1,6 +1,6 @@
 // What follows a pulse: the next place, the endings, and the silent pairs of a wait.
 ghost use mathlib.Core.Path.{_≡_};
-ghost use Rattle.follow.specs.Follow.{endsSilentPair, next};
+ghost use Rattle.follow.specs.Follow.{endsSilentPair, next, onward};
 
 mod following;
 
@@ -19,6 +19,14 @@ pub fn next(place: Place, load: Load, seen: Seen) -> Place
         return following::onward(load, phase, index);
     }
     following::after_pair(load, phase, index, seen)
+}
+
+// The place after the pulse at `place`, where what was seen does not count: the phase's next, or after its last the first of what follows.
+pub fn onward(place: Place, load: Load) -> Place
+    ensures { λ r. ⌜ r ≡ onward load (place .phase) (place .index) ⌝ }
+{
+    let phase = place.phase;
+    following::onward(load, phase, place.index)
 }
 
 // Whether the pulse at a place ends a silent pair of a wait.

@@ -9,7 +9,7 @@ use native.Mathlib.Omega.{arith}
 use Rattle.terms.proofs.Tests.{differ-false}
 use Rattle.terms.proofs.Refusals.{taken-exactly}
 use Rattle.terms.specs.Refusals.{taken}
-use Rattle.session.specs.Step.{otherImage}
+use Rattle.load.specs.Load.{otherImage}
 use Rattle.place.proofs.Bounds.{phase-most}
 use Rattle.host.specs.Step.{hostStart}
 use Rattle.host.specs.declared.Host.{Host}

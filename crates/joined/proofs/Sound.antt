@@ -9,7 +9,8 @@ use lib.ListN.{length}
 use Rattle.terms.specs.Refusals.{refused, taken}
 use Rattle.terms.proofs.Refusals.{not-both, agrees, clear-taken}
 use Rattle.terms.proofs.Tests.{when-elim}
-use Rattle.session.specs.Step.{otherImage, pulseOf}
+use Rattle.load.specs.Load.{otherImage}
+use Rattle.session.specs.Step.{pulseOf}
 use Rattle.session.proofs.Within.{session-within}
 use Rattle.host.specs.Step.{hostRows, hostStep, timed}
 use Rattle.host.specs.declared.Sent.{Sent}

@@ -8,6 +8,8 @@ use Rattle.load.specs.declared.Accepted.{Accepted}
 use Rattle.load.specs.declared.Accepted.the-variants.{Refused, Taken}
 use Rattle.load.proofs.Load.is_outside.Kinds as is-outside-kinds
 use Rattle.load.proofs.Load.is_outside.Reads as is-outside
+use Rattle.load.proofs.Load.is_other_image.Kinds as is-other-image-kinds
+use Rattle.load.proofs.Load.is_other_image.Reads as is-other-image
 use Rattle.load.proofs.Load.new.Kinds as new-kinds
 use Rattle.load.proofs.Load.new.Reads as new
 
@@ -20,3 +22,6 @@ new-one κs a r₁ r₂ e₁ e₂ p q = one-told toldAccepted (back Refused Take
 
 pub is-outside-one : OneAnswer is-outside-kinds.ps is-outside-kinds.r is-outside.Post
 is-outside-one κs a r₁ r₂ e₁ e₂ p q = p ∙ sym q
+
+pub is-other-image-one : OneAnswer is-other-image-kinds.ps is-other-image-kinds.r is-other-image.Post
+is-other-image-one κs a r₁ r₂ e₁ e₂ p q = p ∙ sym q

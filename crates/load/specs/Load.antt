@@ -1,6 +1,6 @@
 -- 01, rows 4 to 9 of "Refusal numbers": a command with its image.
 -- Assumes nothing.
-use mathlib.Core.Bool.{Bool, not}
+use mathlib.Core.Bool.{Bool, false, not}
 use mathlib.Core.List.{List, [], _∷_}
 use Prim.Native.Nat.{ℕ}
 use lib.Dec.{ltb, eqb}
@@ -38,6 +38,10 @@ accepted command image = first (loadRows command image) (loadOf command image)
 unfoldable pub loadOutside : Load → Bool
 loadOutside l =
     either (ltb 3 (l .command)) (when (eqb (l .command) 0) (not (eqb (l .length .0) 0)) (badLength (l .length .0)))
+
+-- 5, at a step: the image's length isn't the one at the start. For command 0 the image is not looked at.
+unfoldable pub otherImage : Load → List ℕ → Bool
+otherImage load image = when (eqb (load .command) 0) false (not (eqb (length image) (load .length .0)))
 
 -- What an answer tells: its number where it is a refusal, otherwise the load.
 abbrev pub toldAccepted : Accepted → Answer Load

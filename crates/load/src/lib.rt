@@ -1,6 +1,6 @@
 // What a start accepts beside its settings: a command with its image.
 ghost use mathlib.Core.Path.{_≡_};
-ghost use Rattle.load.specs.Load.{accepted, loadOutside, toldAccepted};
+ghost use Rattle.load.specs.Load.{accepted, loadOutside, otherImage, toldAccepted};
 
 mod image;
 
@@ -71,5 +71,15 @@ impl Load {
             return self.length.0 != 0;
         }
         image::is_bad_length(self.length)
+    }
+
+    // Whether a step is lent an image of another length than the start was. Command 0 looks at none.
+    pub fn is_other_image(self, image: &[u8]) -> bool
+        ensures { λ r. ⌜ r ≡ otherImage self (now (image .entry)) ⌝ }
+    {
+        if self.command != 0 {
+            return image.len() != self.length.0;
+        }
+        false
     }
 }

@@ -10,11 +10,11 @@ use borrow.Author.Tests.{eqb-false, ne-eqb}
 use Rattle.terms.specs.Refusals.{refused, taken}
 use Rattle.terms.proofs.Refusals.{refused-alike, taken-alike}
 use Rattle.terms.proofs.Tests.{when-false, when-elim, differ-false}
-use Rattle.load.specs.Load.{loadRows, loadOf, accepted, toldAccepted}
+use Rattle.load.specs.Load.{loadRows, loadOf, otherImage, accepted, toldAccepted}
 use Rattle.load.specs.declared.Accepted.{Accepted}
 use Rattle.load.specs.declared.Accepted.the-variants.{Refused, Taken}
 use Rattle.load.specs.declared.Load.{Load}
-use Rattle.session.specs.Step.{fresh, sessionStart, otherImage}
+use Rattle.session.specs.Step.{fresh, sessionStart}
 use Rattle.session.specs.declared.Session.{Session}
 
 module _ (command : ℕ) (image : List ℕ) where

@@ -1,13 +1,11 @@
 -- 01, "What the host sends", without time: a session's start and its steps.
 -- Assumes nothing.
-use mathlib.Core.Bool.{Bool, false, not}
+use mathlib.Core.Bool.{Bool}
 use mathlib.Core.List.{List, [], _∷_}
 use Prim.Native.Nat.{ℕ, _+_}
-use lib.Dec.{eqb}
-use lib.ListN.{length}
 use Rattle.terms.specs.Choice.{when}
 use Rattle.terms.specs.Refusals.{Row, Answer, refused, taken, _given-when_, first}
-use Rattle.load.specs.Load.{loadRows, loadOf}
+use Rattle.load.specs.Load.{loadRows, loadOf, otherImage}
 use Rattle.load.specs.declared.Load.{Load}
 use Rattle.units.specs.declared.Seen.{Seen}
 use Rattle.bits.specs.Bits.{sentBit}
@@ -31,10 +29,6 @@ fresh load = record { load = load; place = opened Calibration; pulses = 0; ones 
 -- The fresh session, or the first of rows 4 to 9 that applies.
 unfoldable pub sessionStart : ℕ → List ℕ → Answer Session
 sessionStart command image = first (loadRows command image) (fresh (loadOf command image))
-
--- 5, at a step: the image's length isn't the one at the start. For command 0 the image is not looked at.
-unfoldable pub otherImage : Load → List ℕ → Bool
-otherImage load image = when (eqb (load .command) 0) false (not (eqb (length image) (load .length .0)))
 
 -- A step's rows, in their order.
 abbrev pub stepRows : Session → List ℕ → List Row

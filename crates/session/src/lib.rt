@@ -59,11 +59,12 @@ impl Session {
         if ranges::is_outside(self) {
             return Stepped::Refused(13);
         }
+        let load = self.load;
         let place = self.place;
         if place.has_ended() {
             return Stepped::Refused(14);
         }
-        if ranges::is_other_image(self.load, image) {
+        if load.is_other_image(image) {
             return Stepped::Refused(5);
         }
         Stepped::Sent(pulse_of(self, image, seen))

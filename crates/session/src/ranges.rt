@@ -1,9 +1,7 @@
-// The ranges of a session's fields, and the image that a step is lent.
+// The ranges of a session's fields.
 ghost use mathlib.Core.Path.{_≡_};
 ghost use Rattle.session.specs.Ranges.{sessionOutside};
-ghost use Rattle.session.specs.Step.{otherImage};
 use crate::Session;
-use load::Load;
 
 pub(crate) fn is_outside(session: Session) -> bool
     ensures { λ r. ⌜ r ≡ sessionOutside session ⌝ }
@@ -20,13 +18,4 @@ pub(crate) fn is_outside(session: Session) -> bool
         return true;
     }
     session.ones as u64 + session.zeros as u64 != session.pulses as u64
-}
-
-pub(crate) fn is_other_image(load: Load, image: &[u8]) -> bool
-    ensures { λ r. ⌜ r ≡ otherImage load (now (image .entry)) ⌝ }
-{
-    if load.command == 0 {
-        return false;
-    }
-    image.len() != load.length.0
 }

@@ -14,6 +14,7 @@ use Rattle.terms.specs.Choice.{when}
 use Rattle.terms.specs.Refusals.{Answer, refused, taken}
 use Rattle.terms.proofs.Refusals.{clear-taken}
 use Rattle.terms.proofs.Tests.{when-true, when-false}
+use Rattle.load.specs.Load.{otherImage}
 use Rattle.load.specs.declared.Load.{Load}
 use Rattle.settings.specs.declared.Settings.{Settings}
 use Rattle.units.specs.declared.Seen.{Seen}
@@ -24,7 +25,7 @@ use Rattle.place.specs.Phases.{imagePulses, ended}
 use Rattle.place.specs.Ranges.{before}
 use Rattle.place.specs.declared.Phase.the-variants.{Ended}
 use Rattle.place.specs.declared.Place.{Place}
-use Rattle.session.specs.Step.{otherImage, stepRows, pulseOf, sessionStep}
+use Rattle.session.specs.Step.{stepRows, pulseOf, sessionStep}
 use Rattle.session.specs.declared.Pulse.{Pulse}
 use Rattle.session.proofs.Within.{session-within, pulses-most}
 use Rattle.host.specs.Step.{timed, hostStep}

@@ -14,7 +14,7 @@ use Rattle.load.specs.declared.Load.{Load}
 use Rattle.settings.specs.declared.Settings.{Settings}
 use Rattle.load.proofs.Within.{load-within}
 use Rattle.units.specs.declared.Seen.{Seen}
-use Rattle.session.specs.Step.{otherImage}
+use Rattle.load.specs.Load.{otherImage}
 use Rattle.session.specs.Step as session
 use Rattle.host.specs.Step.{fresh}
 use Rattle.host.specs.declared.Host.{Host}

@@ -1,9 +1,9 @@
--- `ranges::is_other_image` compares lengths, except for command 0.
+-- `Load::is_other_image` compares lengths, except for command 0.
 -- Assumes nothing.
 use Rattle.terms.proofs.Refusals.{walk}
-use Rattle.session.specs.Step.{otherImage}
-use Rattle.session.proofs.ranges.is_other_image.Statement.{statement}
-use Rattle.session.proofs.ranges.is_other_image.Tie as tie
+use Rattle.load.specs.Load.{otherImage}
+use Rattle.load.proofs.Load.is_other_image.Statement.{statement}
+use Rattle.load.proofs.Load.is_other_image.Tie as tie
 
 returns : tie.Need-returns
 unfolding otherImage
