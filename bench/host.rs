@@ -42,15 +42,27 @@ pub enum Phase {
     Ended(Ending),
 }
 
+// What is loaded: a command with its image's length.
+#[derive(Clone, Copy)]
+pub struct Load {
+    pub command: u32,
+    length: usize,
+}
+
+// Where a session stands.
+#[derive(Clone, Copy)]
+pub struct Place {
+    pub phase: Phase,
+    pub index: u32,
+}
+
 #[derive(Clone, Copy)]
 pub struct Host {
     t: u32,
     h: u32,
     p: u32,
-    command: u32,
-    length: usize,
-    pub phase: Phase,
-    pub index: u32,
+    load: Load,
+    pub place: Place,
     time: u64,
     pub pulses: u32,
     pub ones: u32,
@@ -80,7 +92,7 @@ pub struct Planner {
 }
 
 impl Planner {
-    fn draw(&self, k: u32) -> bool {
+    pub fn draw(&self, k: u32) -> bool {
         self.states[((k + 254) % 255) as usize] & 1 == 1
     }
 }
@@ -97,17 +109,8 @@ fn bad_length(length: usize) -> bool {
     length < 16 || length > 32_760 || length % 4 != 0
 }
 
-impl Host {
-    pub fn start(t: u32, h: u32, p: u32, command: u32, image: &[u8]) -> Result<Host, u8> {
-        if !(4_300..=26_000).contains(&t) {
-            return Err(1);
-        }
-        if !(4_300..=90_000_000).contains(&h) {
-            return Err(2);
-        }
-        if !(1_000..=1_000_000).contains(&p) {
-            return Err(3);
-        }
+impl Load {
+    pub fn new(command: u32, image: &[u8]) -> Result<Load, u8> {
         if command > 3 {
             return Err(4);
         }
@@ -131,24 +134,24 @@ impl Host {
                 return Err(9);
             }
         }
-        Ok(Host {
-            t,
-            h,
-            p,
-            command,
-            length,
-            phase: Phase::Calibration,
-            index: 0,
-            time: 0,
-            pulses: 0,
-            ones: 0,
-            zeros: 0,
-        })
+        Ok(Load { command, length })
     }
 
+    pub fn outside(&self) -> bool {
+        self.command > 3 || if self.command == 0 { self.length != 0 } else { bad_length(self.length) }
+    }
+
+    pub fn other_image(&self, image: &[u8]) -> bool {
+        self.command != 0 && image.len() != self.length
+    }
+}
+
+impl Place {
+    pub const START: Place = Place { phase: Phase::Calibration, index: 0 };
+
     // The pulses of a phase, those that can come before it, and the least command that has it.
-    fn table(&self) -> (u32, u32, u32) {
-        let image = self.length as u32 * 8;
+    fn table(&self, load: &Load) -> (u32, u32, u32) {
+        let image = load.length as u32 * 8;
         match self.phase {
             Phase::Calibration => (2, 0, 0),
             Phase::Handshake => (250, 2, 0),
@@ -166,67 +169,24 @@ impl Host {
         }
     }
 
-    fn outside(&self) -> bool {
-        if !(4_300..=26_000).contains(&self.t)
-            || !(4_300..=90_000_000).contains(&self.h)
-            || !(1_000..=1_000_000).contains(&self.p)
-            || self.command > 3
-        {
-            return true;
-        }
-        if if self.command == 0 { self.length != 0 } else { bad_length(self.length) } {
-            return true;
-        }
-        let (places, before, least) = self.table();
-        self.command < least
-            || self.index >= places
-            || self.pulses > before + self.index
-            || self.ones > self.pulses
-            || self.zeros != self.pulses - self.ones
-            || self.time > self.pulses as u64 * LONGEST_LEG
+    pub fn outside(&self, load: &Load) -> bool {
+        let (places, _, least) = self.table(load);
+        load.command < least || self.index >= places
     }
 
-    pub fn step(mut self, planner: &Planner, image: &[u8], seen: Seen) -> Result<Sent, u8> {
-        if self.outside() {
-            return Err(13);
-        }
-        if let Phase::Ended(_) = self.phase {
-            return Err(14);
-        }
-        if self.command != 0 && image.len() != self.length {
-            return Err(5);
-        }
-        let bit = self.bit(planner, image);
-        let silent = matches!((self.phase, seen), (Phase::Wait(_), Seen::Silence)) && self.index % 2 == 1;
-        let low = if bit { self.t as u64 } else { self.t as u64 * 2 } * 1_000;
-        let spacer = if silent { self.h.max(10_000_000) } else { self.h } as u64 * 1_000;
-        let fall = self.time;
-        let rise = fall + low;
-        self.time = rise + spacer;
-        self.pulses += 1;
-        if bit {
-            self.ones += 1;
-        } else {
-            self.zeros += 1;
-        }
-        self.follow(planner, seen);
-        let p = self.p as u64;
-        Ok(Sent { host: self, fall: fall / p, rise: rise / p })
-    }
-
-    fn bit(&self, planner: &Planner, image: &[u8]) -> bool {
+    pub fn bit(&self, planner: &Planner, load: &Load, image: &[u8]) -> bool {
         let index = self.index;
         match self.phase {
             Phase::Calibration | Phase::Connection | Phase::Version(_) | Phase::Wait(_) => index % 2 == 0,
             Phase::Handshake => planner.draw(index + 1),
-            Phase::Command => self.command >> index & 1 == 1,
+            Phase::Command => load.command >> index & 1 == 1,
             Phase::Zeros | Phase::Ended(_) => false,
-            Phase::Size => (self.length as u32 / 4) >> index & 1 == 1,
+            Phase::Size => (load.length as u32 / 4) >> index & 1 == 1,
             Phase::Image => image[index as usize / 8] >> (index % 8) & 1 == 1,
         }
     }
 
-    fn follow(&mut self, planner: &Planner, seen: Seen) {
+    pub fn follow(&mut self, planner: &Planner, load: &Load, seen: Seen) {
         if self.index % 2 == 1 {
             match (self.phase, seen) {
                 (Phase::Connection, Seen::Silence) | (Phase::Version(_), Seen::Silence) => return self.open(Phase::Ended(Ending::Lost)),
@@ -236,7 +196,7 @@ impl Host {
                 (Phase::Version(v), Seen::One) => self.phase = Phase::Version(v >> 1 | 128),
                 (Phase::Wait(awaited), Seen::Zero) => {
                     return self.open(match awaited {
-                        Acknowledgement::Ram if self.command == 1 => Phase::Ended(Ending::Done),
+                        Acknowledgement::Ram if load.command == 1 => Phase::Ended(Ending::Done),
                         Acknowledgement::Ram => Phase::Wait(Acknowledgement::Programming),
                         Acknowledgement::Programming => Phase::Wait(Acknowledgement::Verification),
                         Acknowledgement::Verification => Phase::Ended(Ending::Done),
@@ -252,7 +212,7 @@ impl Host {
                 _ => {}
             }
         }
-        if self.index + 1 < self.table().0 {
+        if self.index + 1 < self.table(load).0 {
             self.index += 1;
             return;
         }
@@ -262,7 +222,7 @@ impl Host {
             Phase::Connection => Phase::Version(0),
             Phase::Version(1) => Phase::Command,
             Phase::Version(_) => Phase::Zeros,
-            Phase::Command if self.command == 0 => Phase::Ended(Ending::Done),
+            Phase::Command if load.command == 0 => Phase::Ended(Ending::Done),
             Phase::Command => Phase::Size,
             Phase::Zeros => Phase::Ended(Ending::WrongVersion),
             Phase::Size => Phase::Image,
@@ -278,13 +238,83 @@ impl Host {
     }
 }
 
+impl Host {
+    pub fn start(t: u32, h: u32, p: u32, command: u32, image: &[u8]) -> Result<Host, u8> {
+        if !(4_300..=26_000).contains(&t) {
+            return Err(1);
+        }
+        if !(4_300..=90_000_000).contains(&h) {
+            return Err(2);
+        }
+        if !(1_000..=1_000_000).contains(&p) {
+            return Err(3);
+        }
+        Ok(Host {
+            t,
+            h,
+            p,
+            load: Load::new(command, image)?,
+            place: Place::START,
+            time: 0,
+            pulses: 0,
+            ones: 0,
+            zeros: 0,
+        })
+    }
+
+    fn outside(&self) -> bool {
+        if !(4_300..=26_000).contains(&self.t)
+            || !(4_300..=90_000_000).contains(&self.h)
+            || !(1_000..=1_000_000).contains(&self.p)
+            || self.load.outside()
+        {
+            return true;
+        }
+        let (places, before, least) = self.place.table(&self.load);
+        self.load.command < least
+            || self.place.index >= places
+            || self.pulses > before + self.place.index
+            || self.ones > self.pulses
+            || self.zeros != self.pulses - self.ones
+            || self.time > self.pulses as u64 * LONGEST_LEG
+    }
+
+    pub fn step(mut self, planner: &Planner, image: &[u8], seen: Seen) -> Result<Sent, u8> {
+        if self.outside() {
+            return Err(13);
+        }
+        if let Phase::Ended(_) = self.place.phase {
+            return Err(14);
+        }
+        if self.load.other_image(image) {
+            return Err(5);
+        }
+        let bit = self.place.bit(planner, &self.load, image);
+        let silent = matches!((self.place.phase, seen), (Phase::Wait(_), Seen::Silence)) && self.place.index % 2 == 1;
+        let low = if bit { self.t as u64 } else { self.t as u64 * 2 } * 1_000;
+        let spacer = if silent { self.h.max(10_000_000) } else { self.h } as u64 * 1_000;
+        let fall = self.time;
+        let rise = fall + low;
+        self.time = rise + spacer;
+        self.pulses += 1;
+        if bit {
+            self.ones += 1;
+        } else {
+            self.zeros += 1;
+        }
+        self.place.follow(planner, &self.load, seen);
+        let p = self.p as u64;
+        Ok(Sent { host: self, fall: fall / p, rise: rise / p })
+    }
+}
+
 // What a good chip replies to the pulse before.
 fn reply(planner: &Planner, host: &Host) -> Seen {
     let seen = |bit| if bit { Seen::One } else { Seen::Zero };
-    match host.phase {
-        Phase::Connection => seen(planner.draw(251 + host.index / 2)),
-        Phase::Version(_) => seen(host.index < 2),
-        Phase::Wait(_) if host.index >= 2 => Seen::Zero,
+    match host.place.phase {
+        Phase::Connection => seen(planner.draw(251 + host.place.index / 2)),
+        Phase::Version(_) => seen(host.place.index < 2),
+        Phase::Wait(_) if host.place.index >= 2 => Seen::Zero,
         _ => Seen::Silence,
     }
 }
@@ -314,7 +344,7 @@ fn main() {
     println!("zeros {}", host.zeros);
     println!("ticks {last}");
     println!("edges {edges}");
-    match host.phase {
+    match host.place.phase {
         Phase::Ended(ending) => println!("host {}", ending as u8),
         _ => println!("host going on"),
     }

@@ -32,8 +32,8 @@ fn loops(ticks: u64, p: u32, l: u32) -> u32 {
 
 // What the host sees in the call that sends its next pulse.
 fn sees(host: &Host, reply: host::Seen) -> host::Seen {
-    match host.phase {
-        Phase::Calibration | Phase::Connection | Phase::Version(_) | Phase::Wait(_) if host.index % 2 == 1 => reply,
+    match host.place.phase {
+        Phase::Calibration | Phase::Connection | Phase::Version(_) | Phase::Wait(_) if host.place.index % 2 == 1 => reply,
         _ => host::Seen::Silence,
     }
 }
@@ -55,7 +55,7 @@ fn run(
     let mut last = 0;
     let mut reply = host::Seen::Silence;
     loop {
-        if let Phase::Ended(ending) = host.phase {
+        if let Phase::Ended(ending) = host.place.phase {
             let chip = match chip.phase {
                 chip::Phase::Ended(ending) => Some(ending),
                 _ => None,

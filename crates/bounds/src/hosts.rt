@@ -2,6 +2,7 @@
 use crate::print::number;
 use crate::print::refused;
 use crate::print::say;
+use crate::serials;
 use host::Host;
 use host::Planned;
 use load::Load;
@@ -81,6 +82,7 @@ fn load(command: u32, length: u32) {
         0,
         length,
     );
+    serials::at(Phase::Calibration, command, length, 0);
 }
 
 fn fresh(load: Load) -> Session {

@@ -5,6 +5,7 @@ mod hosts;
 mod listeners;
 mod places;
 mod print;
+mod serials;
 
 fn main() {
     hosts::all();

@@ -1,7 +1,8 @@
-// Hosts by hand at each place of a session.
+// Hosts and serial sessions by hand at each place of a session.
 use crate::hosts;
 use crate::print::number;
 use crate::print::say;
+use crate::serials;
 use load::Load;
 use place::Acknowledgement;
 use place::Ending;
@@ -77,7 +78,7 @@ fn ends() {
     bounds(Phase::Ended(Ending::BadVerification), 2, 44, 0, 2_634);
 }
 
-// A record at its bounds, past the index, past the pulses, and below the least command that has the phase.
+// Records at their bounds, past the index, past the pulses, and below the least command that has the phase.
 fn bounds(phase: Phase, command: u32, length: u32, index: u32, pulses: u32) {
     at(phase, command, length, index, pulses);
     at(
@@ -94,13 +95,17 @@ fn bounds(phase: Phase, command: u32, length: u32, index: u32, pulses: u32) {
         index,
         std::num::wrapping_add_u32(pulses, 1),
     );
+    serials::at(phase, command, length, index);
+    serials::at(phase, command, length, std::num::wrapping_add_u32(index, 1));
     if command == 1 {
         at(phase, 1, length, 0, 0);
         at(phase, 0, 0, 0, 0);
+        serials::at(phase, 0, 0, 0);
     }
     if command == 2 {
         at(phase, 2, length, 0, 0);
         at(phase, 1, length, 0, 0);
+        serials::at(phase, 1, length, 0);
     }
 }
 

@@ -22,6 +22,8 @@ use Rattle.session.proofs.Within.{Within, session-within}
 use Rattle.host.specs.Step.{fresh, hostStart, hostRows, hostStep}
 use Rattle.host.specs.declared.Host.{Host}
 use Rattle.host.proofs.Reached as host-reached
+use Rattle.serial.specs.Step.{serialStart, serialRows, serialStep}
+use Rattle.serial.proofs.Reached as serial-reached
 use Rattle.eeprom.specs.declared.Fault.{Fault}
 use Rattle.phases.specs.Phases as phases
 use Rattle.chip.specs.Step.{startRows, stepRows, chipStart, chipStep, unlessRefused}
@@ -94,15 +96,17 @@ session-14 : (s : Session) → Within s → place.ended (s .place .phase) ≡ tr
 session-14 s w e image = inr (session-within s .1 w, inl (refl, e))
 
 pub demand-1 : Demand1
-unfolding checked accepted sessionStart sessionStep hostStart hostStep chipStart
+unfolding checked accepted sessionStart sessionStep hostStart hostStep serialStart serialStep chipStart
 demand-1 = record {
   settings = λ t h p n. refused-exactly _ n (settingsRows t h p);
   load = λ command image n. refused-exactly _ n (loadRows command image);
   session-start = λ command image n. refused-exactly _ n (loadRows command image);
   host-start = λ t h p command image n. refused-exactly _ n (settingsRows t h p ++ loadRows command image);
+  serial-start = λ packing command image n. refused-exactly _ n (loadRows command image);
   chip-start = λ ram eeprom fault n. refused-exactly _ n (startRows ram eeprom fault);
   session-step = λ s image seen n. refused-exactly _ n (session.stepRows s image);
   host-step = λ x image seen n. refused-exactly _ n (hostRows x image);
+  serial-step = λ s image back n. refused-exactly _ n (serialRows s image back);
   chip-step = λ c ram eeprom wait low n.
       (step-given c ram eeprom wait low n, λ g. ap (λ (x : chip.Left). x .answer) (chip-left c ram eeprom wait low n g));
   run = λ t h p command image fault l ram eeprom n. (
@@ -113,11 +117,13 @@ demand-1 = record {
   run-left = run-left;
   session-never-13 = session-reached.never-13;
   host-never-13 = host-reached.never-13;
+  serial-never-13 = serial-reached.never-13;
   chip-never-13 = chip-reached.never-13;
   session-ended = λ s r e image seen. refused-exactly _ 14 (session.stepRows s image) .1 (session-14 s (session-reached.reached-within s r) e image);
   host-ended = λ x r e image seen.
       let kept = host-reached.reached-kept x r in
       refused-exactly _ 14 (hostRows x image) .1 (inr (kept .own, session-14 (x .session) (kept .within) e image));
+  serial-ended = λ s r e image back. serial-reached.ended-14 s r image back e;
   chip-ended = λ c r e ram eeprom wait low w v.
       let kept = chip-reached.chip-kept c .1 (chip-reached.reached-kept c r) in
       ap (λ (x : chip.Left). x .answer)

@@ -19,6 +19,11 @@ use Rattle.session.specs.Reached as session-reached
 use Rattle.host.specs.Step.{hostStart, hostRows, hostStep}
 use Rattle.host.specs.declared.Host.{Host}
 use Rattle.host.specs.Reached as host-reached
+use Rattle.serial.specs.Step.{serialStart, serialRows, serialStep}
+use Rattle.serial.specs.Reached as serial-reached
+use Rattle.serial.specs.declared.Wire.{Wire}
+use Rattle.serial.specs.declared.Packing.{Packing}
+use Rattle.serial.specs.declared.Serial.{Serial}
 use Rattle.eeprom.specs.declared.Fault.{Fault}
 use Rattle.phases.specs.Phases as phases
 use Rattle.chip.specs.Step.{startRows, stepRows, chipStart, chipStep}
@@ -39,11 +44,15 @@ pub record Demand1 : Type 0 where
   pub session-start : (command : ℕ) (image : List ℕ) (n : ℕ) → (sessionStart command image ≡ refused n) ↔ Given n (loadRows command image)
   pub host-start : (t h p command : ℕ) (image : List ℕ) (n : ℕ)
       → (hostStart t h p command image ≡ refused n) ↔ Given n (settingsRows t h p ++ loadRows command image)
+  pub serial-start : (packing : Packing) (command : ℕ) (image : List ℕ) (n : ℕ)
+      → (serialStart packing command image ≡ refused n) ↔ Given n (loadRows command image)
   pub chip-start : (ram eeprom : List ℕ) (fault : Fault) (n : ℕ) → (chipStart ram eeprom fault ≡ refused n) ↔ Given n (startRows ram eeprom fault)
   -- at each step, of every record,
   pub session-step : (s : Session) (image : List ℕ) (seen : Seen) (n : ℕ)
       → (sessionStep s image seen ≡ refused n) ↔ Given n (session.stepRows s image)
   pub host-step : (x : Host) (image : List ℕ) (seen : Seen) (n : ℕ) → (hostStep x image seen ≡ refused n) ↔ Given n (hostRows x image)
+  pub serial-step : (s : Serial) (image : List ℕ) (back : Wire) (n : ℕ)
+      → (serialStep s image back ≡ refused n) ↔ Given n (serialRows s image back)
   pub chip-step : (c : Chip) (ram eeprom : List ℕ) (wait low n : ℕ)
       → (chipStep c ram eeprom wait low .answer ≡ refused n) ↔ Given n (stepRows c ram eeprom)
   -- and of a run.
@@ -58,6 +67,7 @@ pub record Demand1 : Type 0 where
   -- 13 is never given to a record got from a start by steps that weren't refused,
   pub session-never-13 : (s : Session) → session-reached.Reached s → (image : List ℕ) (seen : Seen) → sessionStep s image seen ≡ refused 13 → ⊥
   pub host-never-13 : (x : Host) → host-reached.Reached x → (image : List ℕ) (seen : Seen) → hostStep x image seen ≡ refused 13 → ⊥
+  pub serial-never-13 : (s : Serial) → serial-reached.Reached s → (image : List ℕ) (back : Wire) → serialStep s image back ≡ refused 13 → ⊥
   pub chip-never-13 : (c : Chip) → chip-reached.Reached c → (ram eeprom : List ℕ) (wait low : ℕ)
       → chipStep c ram eeprom wait low .answer ≡ refused 13 → ⊥
   -- and 14 always to such a record that has ended.
@@ -65,5 +75,7 @@ pub record Demand1 : Type 0 where
       → sessionStep s image seen ≡ refused 14
   pub host-ended : (x : Host) → host-reached.Reached x → place.ended (x .session .place .phase) ≡ true → (image : List ℕ) (seen : Seen)
       → hostStep x image seen ≡ refused 14
+  pub serial-ended : (s : Serial) → serial-reached.Reached s → place.ended (s .place .phase) ≡ true → (image : List ℕ) (back : Wire)
+      → serialStep s image back ≡ refused 14
   pub chip-ended : (c : Chip) → chip-reached.Reached c → phases.ended (c .listener .phase) ≡ true → (ram eeprom : List ℕ) (wait low : ℕ)
       → length ram ≡ 32768 → length eeprom ≡ 32768 → chipStep c ram eeprom wait low .answer ≡ refused 14

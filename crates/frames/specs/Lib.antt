@@ -1,0 +1,2 @@
+pub mod Frames
+pub mod LowRuns

@@ -1,0 +1,6 @@
+pub mod Fills
+pub mod Kept
+pub mod Places
+pub mod Reached
+pub mod Starts
+pub mod Unique

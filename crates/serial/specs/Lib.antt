@@ -1,0 +1,5 @@
+pub mod Filling
+pub mod Phases
+pub mod Reached
+pub mod Replies
+pub mod Step

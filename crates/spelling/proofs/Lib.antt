@@ -1,0 +1,6 @@
+pub mod Bytes
+pub mod Calls
+pub mod Fills
+pub mod Packed
+pub mod Says
+pub mod Whole
