@@ -1,13 +1,16 @@
-// The bit of each pulse that a session sends, by its phase and its number there.
+// What a session sends and sees, by its phase and the pulse's number there: the bit of each pulse, and what the chip's reply is to it.
 ghost use mathlib.Core.Path.{_≡_};
 ghost use Prim.Native.Nat.{_+_};
 ghost use Rattle.sequence.specs.Sequence.{draw};
 ghost use Rattle.units.specs.Units.{longsIn};
 ghost use Rattle.bits.specs.Bits.{imageBit, pairBit, sentBit, valueBit};
+ghost use Rattle.bits.specs.Seeing.{aroundFirst, sees};
 use load::Load;
+use place::Carries;
 use place::Phase;
 use place::Place;
 use units::Bytes;
+use units::Seen;
 
 // The bits of a value that is sent.
 const VALUE_BITS: u32 = 32;
@@ -37,6 +40,27 @@ pub fn pair_bit(index: u32) -> bool
     ensures { λ r. ⌜ r ≡ pairBit index ⌝ }
 {
     index % 2 == 0
+}
+
+// What the host sees in the call that sends the pulse at a place, where the chip's reply to the pulse before was `reply`.
+pub fn sees(place: Place, reply: Seen) -> Seen
+    ensures { λ r. ⌜ r ≡ sees (place .phase) (place .index) reply ⌝ }
+{
+    let phase = place.phase;
+    match phase.carries() {
+        Carries::Pairs => around_first(place.index, reply),
+        Carries::Bits => Seen::Silence,
+        Carries::Nothing => Seen::Silence,
+    }
+}
+
+fn around_first(index: u32, reply: Seen) -> Seen
+    ensures { λ r. ⌜ r ≡ aroundFirst index reply ⌝ }
+{
+    if pair_bit(index) {
+        return Seen::Silence;
+    }
+    reply
 }
 
 // Draw 1 comes first. Cut to the period the number's successor fits for every index.

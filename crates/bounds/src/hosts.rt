@@ -1,185 +1,93 @@
-// Hosts by hand, before their first pulse or in the handshake.
-use crate::print::number;
-use crate::print::refused;
-use crate::print::say;
+// Hosts, each made of its heading and its line.
+ghost use Prim.Native.Nat.{_≤_};
+use crate::lines::small;
+use crate::lines::which;
+use crate::places;
+use crate::print;
 use crate::serials;
 use host::Host;
 use host::Planned;
-use load::Load;
-use place::Phase;
-use place::Place;
 use session::Session;
 use settings::Settings;
-use units::Bytes;
 use units::Seen;
 
-// The longest pulse with its spacer, in ps.
-const LEG: u64 = 90_052_000_000;
-
-pub(crate) const SETTINGS: Settings = Settings {
-    t: 8_600,
-    h: 8_600,
-    p: 700_000,
-};
-
-const LOAD: Load = Load {
-    command: 1,
-    length: Bytes(44),
-};
-
-pub(crate) fn all() {
-    settings();
-    loads();
-    counts();
-    times();
-    images();
+// A step of a host, or of a serial session. It is lent zeros.
+pub(crate) fn step(heading: u64, line: &[u8]) {
+    known(kind(line), heading, line, length(line));
 }
 
-fn settings() {
-    say(b"host with settings\n");
-    set(4_300, 8_600, 700_000);
-    set(4_299, 8_600, 700_000);
-    set(26_000, 8_600, 700_000);
-    set(26_001, 8_600, 700_000);
-    set(8_600, 4_300, 700_000);
-    set(8_600, 4_299, 700_000);
-    set(8_600, 90_000_000, 700_000);
-    set(8_600, 90_000_001, 700_000);
-    set(8_600, 8_600, 1_000);
-    set(8_600, 8_600, 999);
-    set(8_600, 8_600, 1_000_000);
-    set(8_600, 8_600, 1_000_001);
-}
-
-fn set(t: u32, h: u32, p: u32) {
-    number(b"t ", t as u64);
-    number(b" h ", h as u64);
-    number(b" p ", p as u64);
-    step(Settings { t, h, p }, fresh(LOAD), 0, 44);
-}
-
-fn loads() {
-    say(b"host with load\n");
-    load(0, 0);
-    load(0, 1);
-    load(1, 16);
-    load(1, 12);
-    load(1, 18);
-    load(3, 32_760);
-    load(3, 32_764);
-    load(4, 44);
-}
-
-fn load(command: u32, length: u32) {
-    number(b"command ", command as u64);
-    number(b" length ", length as u64);
-    step(
-        SETTINGS,
-        fresh(Load {
-            command,
-            length: Bytes(length as usize),
-        }),
+// Which of these words the line has: 1 is a serial session, more is a host, and 0 is not known.
+fn kind(line: &[u8]) -> u64 {
+    which(
+        line,
+        b"serial \n\
+        t \n\
+        command \n\
+        pulses \n",
+        1,
         0,
-        length,
-    );
-    serials::at(Phase::Calibration, command, length, 0);
+    )
 }
 
-fn fresh(load: Load) -> Session {
-    Session {
-        load,
-        place: Place {
-            phase: Phase::Calibration,
-            index: 0,
-        },
-        pulses: 0,
-        ones: 0,
-        zeros: 0,
+// How many zeros are lent: as many as the load has, where the line says nothing else.
+fn length(line: &[u8]) -> u32 {
+    small(line, b"lent ", small(line, b"length ", 44))
+}
+
+fn known(kind: u64, heading: u64, line: &[u8], length: u32) {
+    if 32_768 < length {
+        return print::unknown();
+    }
+    match kind {
+        0 => print::unknown(),
+        _ => lent(kind, heading, line, length),
     }
 }
 
-// Pulse 6 of the handshake comes after 7 pulses.
-fn counts() {
-    say(b"host with pulses, ones and zeros\n");
-    count(7, 3, 4);
-    count(7, 7, 0);
-    count(7, 0, 7);
-    count(8, 4, 4);
-    count(7, 3, 3);
-    count(7, 4, 4);
-    count(7, u32::MAX, 8);
-}
-
-fn count(pulses: u32, ones: u32, zeros: u32) {
-    number(b"pulses ", pulses as u64);
-    number(b" ones ", ones as u64);
-    number(b" zeros ", zeros as u64);
-    step(SETTINGS, handshaking(pulses, ones, zeros), 0, 44);
-}
-
-fn handshaking(pulses: u32, ones: u32, zeros: u32) -> Session {
-    Session {
-        load: LOAD,
-        place: Place {
-            phase: Phase::Handshake,
-            index: 5,
-        },
-        pulses,
-        ones,
-        zeros,
-    }
-}
-
-fn times() {
-    say(b"host with time\n");
-    time(0, 0);
-    time(0, 1);
-    time(1, LEG);
-    time(1, LEG + 1);
-    time(7, 7 * LEG);
-    time(7, 7 * LEG + 1);
-    time(7, u64::MAX);
-}
-
-fn time(pulses: u32, time: u64) {
-    number(b"pulses ", pulses as u64);
-    number(b" time ", time);
-    step(SETTINGS, handshaking(pulses, 0, pulses), time, 44);
-}
-
-// The image that a step is lent: 13 is given first.
-fn images() {
-    say(b"host lent an image\n");
-    lent(8_600, 44);
-    lent(8_600, 48);
-    lent(4_299, 48);
-}
-
-fn lent(t: u32, length: u32) {
-    number(b"t ", t as u64);
-    number(b" lent ", length as u64);
-    let settings = Settings {
-        t,
-        h: SETTINGS.h,
-        p: SETTINGS.p,
-    };
-    step(settings, fresh(LOAD), 0, length);
-}
-
-// A step of a host that sees silence and is lent so many zeros.
-pub(crate) fn step(settings: Settings, session: Session, time: u64, length: u32) {
+fn lent(kind: u64, heading: u64, line: &[u8], length: u32)
+    requires { ⌜ length ≤ 32768 ⌝ }
+{
     let zeros = [0u8; 32_768];
-    let end = length as usize;
-    let host = Host {
-        settings,
-        session,
-        time,
-    };
-    if end <= 32_768 {
-        match host.step(&zeros[0..end], Seen::Silence) {
-            Planned::Refused(n) => refused(n),
-            Planned::Taken(_) => say(b": taken"),
-        }
+    played(kind, heading, line, &zeros[..length as usize]);
+}
+
+fn played(kind: u64, heading: u64, line: &[u8], image: &[u8]) {
+    match kind {
+        1 => serials::played(heading, line, image),
+        _ => shown(host(heading, line).step(image, Seen::Silence)),
     }
-    say(b"\n");
+}
+
+fn shown(planned: Planned) {
+    match planned {
+        Planned::Refused(n) => print::refused(n),
+        Planned::Taken(_) => print::taken(),
+    }
+}
+
+fn host(heading: u64, line: &[u8]) -> Host {
+    Host {
+        settings: settings(line),
+        session: session(heading, line),
+        time: cases::number(line, b"time ", 0),
+    }
+}
+
+fn settings(line: &[u8]) -> Settings {
+    Settings {
+        t: small(line, b"t ", 8_600),
+        h: small(line, b"h ", 8_600),
+        p: small(line, b"p ", 700_000),
+    }
+}
+
+fn session(heading: u64, line: &[u8]) -> Session {
+    let pulses = small(line, b"pulses ", 0);
+    Session {
+        load: places::load(line),
+        place: places::place(heading, line),
+        pulses,
+        ones: small(line, b"ones ", 0),
+        zeros: small(line, b"zeros ", pulses),
+    }
 }

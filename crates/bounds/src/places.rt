@@ -1,128 +1,88 @@
-// Hosts and serial sessions by hand at each place of a session.
-use crate::hosts;
-use crate::print::number;
-use crate::print::say;
-use crate::serials;
+// What hosts and serial sessions load, and where they stand.
+use crate::lines::small;
+use crate::lines::which;
 use load::Load;
 use place::Acknowledgement;
 use place::Ending;
 use place::Phase;
 use place::Place;
-use session::Session;
 use units::Bytes;
 
-pub(crate) fn all() {
-    early();
-    later();
-    waits();
-    ends();
-}
-
-fn early() {
-    say(b"host in calibration\n");
-    bounds(Phase::Calibration, 0, 0, 1, 1);
-    say(b"host in handshake\n");
-    bounds(Phase::Handshake, 0, 0, 249, 251);
-    say(b"host in connection\n");
-    bounds(Phase::Connection, 0, 0, 499, 751);
-    say(b"host in version\n");
-    bounds(Phase::Version(255), 0, 0, 15, 767);
-    say(b"host in command\n");
-    bounds(Phase::Command, 0, 0, 31, 799);
-    say(b"host in zeros\n");
-    bounds(Phase::Zeros, 0, 0, 31, 799);
-}
-
-fn later() {
-    say(b"host in size\n");
-    bounds(Phase::Size, 1, 44, 31, 831);
-    say(b"host in image\n");
-    bounds(Phase::Image, 1, 44, 351, 1_183);
-    bounds(Phase::Image, 1, 32_760, 262_079, 262_911);
-}
-
-fn waits() {
-    say(b"host in wait for the ram\n");
-    bounds(Phase::Wait(Acknowledgement::Ram), 1, 44, 49, 1_233);
-    say(b"host in wait for programming\n");
-    bounds(Phase::Wait(Acknowledgement::Programming), 2, 44, 999, 2_233);
-    say(b"host in wait for verification\n");
-    bounds(
-        Phase::Wait(Acknowledgement::Verification),
-        2,
-        44,
-        399,
-        2_633,
-    );
-    bounds(
-        Phase::Wait(Acknowledgement::Verification),
-        2,
-        32_760,
-        399,
-        264_361,
-    );
-}
-
-fn ends() {
-    say(b"host ended, done\n");
-    bounds(Phase::Ended(Ending::Done), 0, 0, 0, 2_282);
-    say(b"host ended, lost\n");
-    bounds(Phase::Ended(Ending::Lost), 0, 0, 0, 2_282);
-    say(b"host ended, wrong version\n");
-    bounds(Phase::Ended(Ending::WrongVersion), 0, 0, 0, 2_282);
-    say(b"host ended, bad ram\n");
-    bounds(Phase::Ended(Ending::BadRam), 1, 44, 0, 2_634);
-    say(b"host ended, bad programming\n");
-    bounds(Phase::Ended(Ending::BadProgramming), 2, 44, 0, 2_634);
-    say(b"host ended, bad verification\n");
-    bounds(Phase::Ended(Ending::BadVerification), 2, 44, 0, 2_634);
-}
-
-// Records at their bounds, past the index, past the pulses, and below the least command that has the phase.
-fn bounds(phase: Phase, command: u32, length: u32, index: u32, pulses: u32) {
-    at(phase, command, length, index, pulses);
-    at(
-        phase,
-        command,
-        length,
-        std::num::wrapping_add_u32(index, 1),
-        pulses,
-    );
-    at(
-        phase,
-        command,
-        length,
-        index,
-        std::num::wrapping_add_u32(pulses, 1),
-    );
-    serials::at(phase, command, length, index);
-    serials::at(phase, command, length, std::num::wrapping_add_u32(index, 1));
-    if command == 1 {
-        at(phase, 1, length, 0, 0);
-        at(phase, 0, 0, 0, 0);
-        serials::at(phase, 0, 0, 0);
-    }
-    if command == 2 {
-        at(phase, 2, length, 0, 0);
-        at(phase, 1, length, 0, 0);
-        serials::at(phase, 1, length, 0);
+pub(crate) fn load(line: &[u8]) -> Load {
+    Load {
+        command: small(line, b"command ", 1),
+        length: Bytes(small(line, b"length ", 44) as usize),
     }
 }
 
-fn at(phase: Phase, command: u32, length: u32, index: u32, pulses: u32) {
-    number(b"command ", command as u64);
-    number(b" length ", length as u64);
-    number(b" index ", index as u64);
-    number(b" pulses ", pulses as u64);
-    let session = Session {
-        load: Load {
-            command,
-            length: Bytes(length as usize),
-        },
-        place: Place { phase, index },
-        pulses,
-        ones: 0,
-        zeros: pulses,
-    };
-    hosts::step(hosts::SETTINGS, session, 0, length);
+pub(crate) fn place(heading: u64, line: &[u8]) -> Place {
+    Place {
+        phase: phase(heading),
+        index: small(line, b"index ", index(heading)),
+    }
+}
+
+// The headings of hosts, numbered from 1.
+pub(crate) fn heading(line: &[u8], otherwise: u64) -> u64 {
+    which(
+        line,
+        b"host with settings\n\
+        host with load\n\
+        host lent an image\n\
+        host with pulses, ones and zeros\n\
+        host with time\n\
+        host in calibration\n\
+        host in handshake\n\
+        host in connection\n\
+        host in version\n\
+        host in command\n\
+        host in zeros\n\
+        host in size\n\
+        host in image\n\
+        host in wait for the ram\n\
+        host in wait for programming\n\
+        host in wait for verification\n\
+        host ended, done\n\
+        host ended, lost\n\
+        host ended, wrong version\n\
+        host ended, bad ram\n\
+        host ended, bad programming\n\
+        host ended, bad verification\n",
+        1,
+        otherwise,
+    )
+}
+
+// Where a heading's hosts stand.
+fn phase(heading: u64) -> Phase {
+    match heading {
+        4 => Phase::Handshake,
+        5 => Phase::Handshake,
+        7 => Phase::Handshake,
+        8 => Phase::Connection,
+        9 => Phase::Version(255),
+        10 => Phase::Command,
+        11 => Phase::Zeros,
+        12 => Phase::Size,
+        13 => Phase::Image,
+        14 => Phase::Wait(Acknowledgement::Ram),
+        15 => Phase::Wait(Acknowledgement::Programming),
+        16 => Phase::Wait(Acknowledgement::Verification),
+        17 => Phase::Ended(Ending::Done),
+        18 => Phase::Ended(Ending::Lost),
+        19 => Phase::Ended(Ending::WrongVersion),
+        20 => Phase::Ended(Ending::BadRam),
+        21 => Phase::Ended(Ending::BadProgramming),
+        22 => Phase::Ended(Ending::BadVerification),
+        _ => Phase::Calibration,
+    }
+}
+
+// Hosts with pulses and with a time stand before pulse 6 of the handshake.
+fn index(heading: u64) -> u32 {
+    match heading {
+        4 => 5,
+        5 => 5,
+        _ => 0,
+    }
 }

@@ -21,8 +21,12 @@ use Rattle.phases.specs.declared.Reply.the-variants.{Connection, Acknowledging}
 use Rattle.listener.specs.Heard.{inPhase, withThreshold, withCommand, withSize, quiet, booting, launching, shutting}
 use Rattle.listener.specs.Heard.{afterDraw, compared, afterConnection, stored, verified, acknowledged, replied}
 use Rattle.listener.specs.Heard.{receivedCommand, receivedSize, receivedLong, readCommand, readSize, readLong, aligned, heard}
-use Rattle.listener.specs.Hears.{hears, failed, settled}
-use Rattle.listener.specs.Late.{late, lateAcknowledgement, lateReply, afterLate}
+use Rattle.listener.specs.Settled.{failed, settled}
+use Rattle.receiver.specs.Hears.{hears}
+use Rattle.receiver.specs.Hears as receiver
+use Rattle.receiver.specs.Late.{late, lateAcknowledgement, lateReply, afterLate}
+use Rattle.receiver.specs.declared.Received.{Received}
+use Rattle.receiver.specs.declared.Receiver.{Receiver}
 use Rattle.line.specs.Reading.{thresholdOf, reads, grown}
 use Rattle.listener.specs.declared.Heard.{Heard}
 use Rattle.listener.specs.declared.Listener.{Listener}
@@ -269,14 +273,16 @@ module _ (l : Listener) (w : Within l) where
   late-settles (Align a) h = booting-settles
   late-settles (Ended e) h = goes-on (Ended e) h
 
-pub hears-settles : (l : Listener) (wait low : ℕ) → Within l → Settles (hears l wait low)
+pub hears-settles : (r : Receiver) (wait low : ℕ) → Within (r .listener) → Settles (hears r wait low .heard)
 unfolding hears late
-hears-settles l wait low w =
-    tested
+hears-settles r wait low w =
+    let l = r .listener in
+    when-elim (λ (x : Received). Settles (x .heard)) _ _ _
     (λ e. late-settles l w (l .phase) (w .had))
     (λ e.
     let timely = less-false 249999 low .0 (either-false _ _ .0 e .1) in
     heard-settles l w low timely (reads (l .threshold .0) low) (l .phase) (w .had))
 
-pub step-within : (l : Listener) (wait low : ℕ) (good : Bool) → Within l → Within (settled (hears l wait low) good)
-step-within l wait low good w = settled-within (hears l wait low) good (hears-settles l wait low w)
+pub step-within : (r : Receiver) (wait low : ℕ) (good : Bool) → Within (r .listener)
+    → Within (receiver.settled (hears r wait low) good .listener)
+step-within r wait low good w = settled-within (hears r wait low .heard) good (hears-settles r wait low w)

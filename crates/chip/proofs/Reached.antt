@@ -10,7 +10,7 @@ use native.Mathlib.Omega.{arith}
 use Rattle.terms.specs.Refusals.{refused, taken, Given}
 use Rattle.terms.proofs.Refusals.{taken-exactly}
 use Rattle.terms.proofs.Tests.{either-false, less-false}
-use Rattle.listener.specs.Hears.{hears}
+use Rattle.receiver.specs.Hears.{hears}
 use Rattle.listener.specs.declared.Event.{Event}
 use Rattle.listener.specs.declared.Event.the-variants.{Nothing, Store, Finish, Program, Verify, Launch, Boot}
 use Rattle.chip.proofs.Listening.{fresh-within, step-within}
@@ -26,13 +26,13 @@ use Rattle.chip.proofs.Steps.{step-given, step-taken}
 
 pub record Kept (c : Chip) : Type 0 where
   pub sound : faultOutside (c .fault) ≡ false
-  pub within : Within (c .listener)
+  pub within : Within (c .receiver .listener)
 
 pub chip-kept : (c : Chip) → (chipOutside c ≡ false) ↔ Kept c
 unfolding chipOutside
 chip-kept c = (
-  (λ q. let parts = either-false _ _ .0 q in record { sound = parts .0; within = listener-within (c .listener) .0 (parts .1) }),
-  (λ k. either-false _ _ .1 (k .sound, listener-within (c .listener) .1 (k .within))),
+  (λ q. let parts = either-false _ _ .0 q in record { sound = parts .0; within = listener-within (c .receiver .listener) .0 (parts .1) }),
+  (λ k. either-false _ _ .1 (k .sound, listener-within (c .receiver .listener) .1 (k .within))),
 )
 
 start-keeps : (ram eeprom : List ℕ) (fault : Fault) (c : Chip) → chipStart ram eeprom fault ≡ taken c → Kept c
@@ -65,8 +65,8 @@ step-keeps c ram eeprom wait low r ram′ eeprom′ e =
     let s = step-taken c ram eeprom wait low r ram′ eeprom′ e in
     let k = chip-kept c .0 (s .passed .1 .1 .0) in
     subst Kept (sym (s .chip-after)) (record {
-      sound = done-sound (c .fault) (hears (c .listener) wait low .event) ram eeprom (k .sound);
-      within = step-within (c .listener) wait low _ (k .within);
+      sound = done-sound (c .fault) (hears (c .receiver) wait low .heard .event) ram eeprom (k .sound);
+      within = step-within (c .receiver) wait low _ (k .within);
     })
 
 pub reached-kept : (c : Chip) → Reached c → Kept c

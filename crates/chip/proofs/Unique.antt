@@ -8,11 +8,15 @@ use Rattle.terms.proofs.Answers.{OneAnswer, OneOutcome, Leaves, back, one-told,
 use Rattle.units.proofs.Lines.{seen-told}
 use Rattle.units.specs.Line.{seen}
 use Rattle.units.specs.declared.Seen.{Seen}
+use Rattle.phases.specs.Endings.{toldEnd}
+use Rattle.phases.proofs.Endings.{backEnd, back-told-end}
 use Rattle.chip.specs.Step.{Reply, Left, toldStarted, toldStepped}
 use Rattle.chip.specs.declared.Started.{Started}
 use Rattle.chip.specs.declared.Started.the-variants as started
 use Rattle.chip.specs.declared.Stepped.{Stepped}
 use Rattle.chip.specs.declared.Stepped.the-variants as stepped
+use Rattle.chip.proofs.Chip.end.Kinds as end-kinds
+use Rattle.chip.proofs.Chip.end.Reads as end
 use Rattle.chip.proofs.Chip.start.Kinds as start-kinds
 use Rattle.chip.proofs.Chip.start.Reads as start
 use Rattle.chip.proofs.Chip.step.Kinds as step-kinds
@@ -37,3 +41,6 @@ pub step-one : OneOutcome step-kinds.ps step-kinds.r step.Post {X = Leaves Stepp
 step-one κs a r₁ r₂ e₁ e₂ p q =
     one-left toldStepped backStepped back-told-stepped _ _
     (ap (λ (l : Left). record { answer = l .answer; ram = l .ram; eeprom = l .eeprom }) (p ∙ sym q))
+
+pub end-one : OneAnswer end-kinds.ps end-kinds.r end.Post
+end-one κs a r₁ r₂ e₁ e₂ p q = one-told toldEnd backEnd back-told-end r₁ r₂ p q

@@ -10,9 +10,9 @@ use Rattle.terms.specs.Refusals.{Row, Answer, refused, taken, _given-when_, fir
 use Rattle.units.specs.Line.{Line, told}
 use Rattle.phases.specs.Phases.{ended}
 use Rattle.phases.specs.declared.Phase.the-variants.{First}
-use Rattle.listener.specs.Hears.{hears, settled}
-use Rattle.listener.specs.Ranges.{listenerOutside}
-use Rattle.listener.specs.declared.Heard.{Heard}
+use Rattle.receiver.specs.Hears.{hears, settled}
+use Rattle.receiver.specs.Ranges.{receiverOutside}
+use Rattle.receiver.specs.declared.Received.{Received}
 use Rattle.eeprom.specs.Eeprom.{faultOutside}
 use Rattle.eeprom.specs.declared.Fault.{Fault}
 use Rattle.chip.specs.Work.{Worked, done}
@@ -26,7 +26,9 @@ use Rattle.chip.specs.declared.Stepped.the-variants as stepped
 abbrev pub fresh : Fault → Chip
 fresh fault = record {
   fault = fault;
-  listener = record { threshold = record { 0 = 0 }; command = 0; size = record { 0 = 0 }; phase = First };
+  receiver = record {
+    listener = record { threshold = record { 0 = 0 }; command = 0; size = record { 0 = 0 }; phase = First };
+  };
 }
 
 -- 10 and 11: the slice is not 32,768 bytes.
@@ -47,7 +49,7 @@ chipStart ram eeprom fault = first (startRows ram eeprom fault) (fresh fault)
 
 -- 13: some field lies outside its range.
 unfoldable pub chipOutside : Chip → Bool
-chipOutside c = either (faultOutside (c .fault)) (listenerOutside (c .listener))
+chipOutside c = either (faultOutside (c .fault)) (receiverOutside (c .receiver))
 
 -- A step's rows, in their order.
 abbrev pub stepRows : Chip → List ℕ → List ℕ → List Row
@@ -55,7 +57,7 @@ stepRows c ram eeprom =
     10 given-when otherSize ram
     ∷ 11 given-when otherSize eeprom
     ∷ 13 given-when chipOutside c
-    ∷ 14 given-when ended (c .listener .phase)
+    ∷ 14 given-when ended (c .receiver .listener .phase)
     ∷ []
 
 -- What a call tells of a pulse that was played: the record after it, and what the line shows.
@@ -73,13 +75,13 @@ abbrev pub left : Answer Reply → List ℕ → List ℕ → Left
 left answer ram eeprom = record { answer = answer; ram = ram; eeprom = eeprom }
 
 -- The record after a pulse: what was heard, once the work went well or not.
-abbrev pub after : Heard → Fault → Bool → Chip
-after heard fault good = record { fault = fault; listener = settled heard good }
+abbrev pub after : Received → Fault → Bool → Chip
+after r fault good = record { fault = fault; receiver = settled r good }
 
 -- A pulse that was heard, with its work done.
-abbrev pub played : Heard → Worked → Left
-played heard w =
-    left (taken (record { chip = after heard (w .done .fault) (w .done .good); reply = told (heard .reply) })) (w .ram) (w .eeprom)
+abbrev pub played : Received → Worked → Left
+played r w =
+    left (taken (record { chip = after r (w .done .fault) (w .done .good); reply = told (r .heard .reply) })) (w .ram) (w .eeprom)
 
 -- A refused step leaves both memories as they are.
 -- Any other leaves what the pulse's work made of them.
@@ -88,13 +90,13 @@ unlessRefused ram eeprom (refused n) = left (refused n) ram eeprom
 unlessRefused ram eeprom (taken l) = l
 
 -- The pulse, played by its wait and its low.
-abbrev pub pulse : Chip → List ℕ → List ℕ → Heard → Left
-pulse c ram eeprom heard = played heard (done (c .fault) (heard .event) ram eeprom)
+abbrev pub pulse : Chip → List ℕ → List ℕ → Received → Left
+pulse c ram eeprom r = played r (done (c .fault) (r .heard .event) ram eeprom)
 
 -- The pulse, or the first row that applies.
 unfoldable pub chipStep : Chip → List ℕ → List ℕ → ℕ → ℕ → Left
 chipStep c ram eeprom wait low =
-    unlessRefused ram eeprom (first (stepRows c ram eeprom) (pulse c ram eeprom (hears (c .listener) wait low)))
+    unlessRefused ram eeprom (first (stepRows c ram eeprom) (pulse c ram eeprom (hears (c .receiver) wait low)))
 
 -- What the answers tell: the number of a refusal, otherwise what is handed back.
 abbrev pub toldStarted : Started → Answer Chip

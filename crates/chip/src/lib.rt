@@ -1,5 +1,6 @@
 // The chip model: one pulse a step, over lent memories.
 ghost use mathlib.Core.Path.{_≡_};
+ghost use Rattle.phases.specs.Endings.{endAt, toldEnd};
 ghost use Rattle.phases.specs.Phases.{ended};
 ghost use Rattle.chip.specs.Step.{after, chipOutside, chipStart, chipStep, left, toldStarted, toldStepped};
 
@@ -7,8 +8,9 @@ mod work;
 
 use eeprom::Done;
 use eeprom::Fault;
-use listener::Heard;
-use listener::Listener;
+use phases::ChipEnd;
+use receiver::Received;
+use receiver::Receiver;
 use units::Bytes;
 use units::Loops;
 use units::Seen;
@@ -16,7 +18,7 @@ use units::Seen;
 // A chip: what is wrong with its EEPROM, and how far it has listened.
 pub struct Chip {
     pub fault: Fault,
-    pub listener: Listener,
+    pub receiver: Receiver,
 }
 
 // What `Chip::start` answers: a refusal by its number, or the chip before its first pulse.
@@ -53,7 +55,7 @@ impl Chip {
         }
         Started::Taken(Chip {
             fault,
-            listener: Listener::FRESH,
+            receiver: Receiver::FRESH,
         })
     }
 
@@ -75,13 +77,24 @@ impl Chip {
             return Stepped::Refused(14);
         }
         let fault = self.fault;
-        let listener = self.listener;
-        let heard = listener.hears(wait, low);
+        let receiver = self.receiver;
+        let received = receiver.hears(wait, low);
+        let heard = received.heard;
         let event = heard.event;
         let reply = heard.reply;
         let done = work::done(fault, event, ram, eeprom);
-        self = after(heard, done);
+        self = after(received, done);
         Stepped::Taken(Played { chip: self, reply })
+    }
+
+    // Whether the chip still listens, or how it has ended.
+    pub fn end(self) -> ChipEnd
+        ensures { λ r. ⌜ toldEnd r ≡ endAt (self .receiver .listener .phase) ⌝ }
+    {
+        let receiver = self.receiver;
+        let listener = receiver.listener;
+        let phase = listener.phase;
+        phase.end()
     }
 }
 
@@ -89,28 +102,29 @@ fn is_outside(chip: Chip) -> bool
     ensures { λ r. ⌜ r ≡ chipOutside chip ⌝ }
 {
     let fault = chip.fault;
-    let listener = chip.listener;
+    let receiver = chip.receiver;
     if fault.is_outside() {
         return true;
     }
-    listener.is_outside()
+    receiver.is_outside()
 }
 
 fn has_ended(chip: Chip) -> bool
-    ensures { λ r. ⌜ r ≡ ended (chip .listener .phase) ⌝ }
+    ensures { λ r. ⌜ r ≡ ended (chip .receiver .listener .phase) ⌝ }
 {
-    let listener = chip.listener;
+    let receiver = chip.receiver;
+    let listener = receiver.listener;
     let phase = listener.phase;
     phase.has_ended()
 }
 
 // The record after a pulse, once its work is done.
-fn after(heard: Heard, done: Done) -> Chip
-    ensures { λ r. ⌜ r ≡ after heard (done .fault) (done .good) ⌝ }
+fn after(received: Received, done: Done) -> Chip
+    ensures { λ r. ⌜ r ≡ after received (done .fault) (done .good) ⌝ }
 {
     let fault = done.fault;
     Chip {
         fault,
-        listener: heard.settled(done.good),
+        receiver: received.settled(done.good),
     }
 }

@@ -6,11 +6,7 @@ ghost use Rattle.chip.specs.Work.{done, loaded, went, withLong, worked};
 use eeprom::Done;
 use eeprom::Fault;
 use listener::Event;
-use units::Bytes;
 use units::Longs;
-
-// The bytes of a long.
-const LONG: usize = 4;
 
 // Does the work, and says how it went.
 pub(crate) fn done(fault: Fault, event: Event, ram: &mut [u8], eeprom: &mut [u8]) -> Done
@@ -50,10 +46,9 @@ fn finished(fault: Fault, ram: &mut [u8], k: Longs, long: u32) -> Done
     ensures { λ r. ⌜ r ≡ went (sumsToZero (now (ram .exit))) fault ⌝ }
     ensures { λ _. ⌜ now (ram .exit) ≡ loaded (k .0) long (now (ram .entry)) ⌝ }
 {
-    let at = k.to_bytes();
-    ram::store(ram, at, long);
+    ram::store(ram, k.to_bytes(), long);
     Done {
-        good: ram::finish(ram, Bytes(at.0 + LONG)),
+        good: ram::finish(ram, k.to_end()),
         fault,
     }
 }

@@ -24,7 +24,7 @@ use Rattle.phases.specs.declared.Acknowledgement.{Acknowledgement}
 use Rattle.phases.specs.declared.Phase.the-variants.{Rest, Align}
 use Rattle.phases.specs.declared.Reply.the-variants.{Acknowledging}
 use Rattle.listener.specs.Heard.{inPhase, aligned, acknowledged}
-use Rattle.listener.specs.Hears.{settled}
+use Rattle.listener.specs.Settled.{settled}
 use Rattle.line.specs.Replies.{acknowledgedBit, shown}
 use Rattle.listener.specs.declared.Event.{Event}
 use Rattle.listener.specs.declared.Event.the-variants.{Program, Verify}

@@ -20,7 +20,7 @@ use Rattle.phases.specs.declared.Phase.{Phase}
 use Rattle.phases.specs.declared.Phase.the-variants.{Handshake, Answer, Rest, Command}
 use Rattle.phases.specs.declared.Reply.the-variants.{Connection}
 use Rattle.listener.specs.Heard.{quiet, agree, afterDraw, compared, afterConnection}
-use Rattle.listener.specs.Hears.{settled}
+use Rattle.listener.specs.Settled.{settled}
 use Rattle.line.specs.Replies.{connectionBit, shown}
 use Rattle.listener.specs.declared.Event.the-variants.{Nothing}
 use Rattle.listener.specs.declared.Listener.{Listener}

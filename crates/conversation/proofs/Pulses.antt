@@ -17,7 +17,7 @@ use Rattle.place.specs.declared.Phase.{Phase}
 use Rattle.place.specs.declared.Place.{Place}
 use Rattle.eeprom.specs.declared.Fault.the-variants.{None}
 use Rattle.phases.specs.declared.Phase as chip
-use Rattle.listener.specs.Hears.{settled}
+use Rattle.listener.specs.Settled.{settled}
 use Rattle.listener.specs.declared.Event.{Event}
 use Rattle.listener.specs.declared.Event.the-variants.{Nothing, Store, Finish, Program, Verify, Launch, Boot}
 use Rattle.listener.specs.declared.Heard.{Heard}

@@ -20,7 +20,7 @@ use Rattle.eeprom.specs.declared.Fault.the-variants.{None}
 use Rattle.phases.specs.Phases as chip
 use Rattle.phases.specs.declared.Phase.the-variants as to
 use Rattle.listener.specs.Heard.{heard}
-use Rattle.listener.specs.Hears.{settled}
+use Rattle.listener.specs.Settled.{settled}
 use Rattle.listener.specs.declared.Heard.{Heard}
 use Rattle.listener.specs.declared.Listener.{Listener}
 use Rattle.chip.specs.Work.{Worked, done}

@@ -2,6 +2,7 @@
 // for each packing, with 1 or 3 it writes the bytes themselves by so many bits a byte; or the number of a refusal. bench/serial.rs is the
 // same program in Rust.
 use figures::Figure;
+use place::HostEnd;
 use place::Phase;
 use place::Place;
 use serial::Packing;
@@ -115,9 +116,8 @@ fn print_end(end: Progress) {
     number(b" bytes ", end.bytes);
     number(b" calls ", end.calls);
     let serial = end.serial;
-    let place = serial.place;
-    let phase = place.phase;
-    if let Phase::Ended(ending) = phase {
+    let ended = serial.end();
+    if let HostEnd::Ended(ending) = ended {
         number(b" host ", ending.number() as u32);
     }
     print_seconds(end.bytes);

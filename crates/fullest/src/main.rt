@@ -5,8 +5,8 @@ use chip::Played;
 use chip::Started;
 use chip::Stepped;
 use eeprom::Fault;
+use phases::ChipEnd;
 use phases::Ending;
-use phases::Phase;
 use units::Loops;
 use units::Seen;
 
@@ -76,12 +76,9 @@ fn print(end: Progress) {
     line(b"zeros ", end.zeros as u64);
     line(b"ones ", end.ones as u64);
     let chip = end.chip;
-    let listener = chip.listener;
-    let phase = listener.phase;
-    if let Phase::Ended(ending) = phase {
-        print_ending(ending);
-    } else {
-        say(b"chip listening\n");
+    match chip.end() {
+        ChipEnd::Listening => say(b"chip listening\n"),
+        ChipEnd::Ended(ending) => print_ending(ending),
     }
 }
 

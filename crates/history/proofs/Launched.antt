@@ -27,15 +27,15 @@ unfolding chipStart
 start-fresh ram eeprom fault c e = taken-exactly (fresh fault) c (startRows ram eeprom fault) .0 e .1
 
 module _ (wait low : ℕ → ℕ) where
-  of-equals : (n : ℕ) (c d : Chip) (ram ram′ : List ℕ) → d ≡ c → ram′ ≡ ram → KnownOf wait low n ram (c .listener)
-      → KnownOf wait low n ram′ (d .listener)
+  of-equals : (n : ℕ) (c d : Chip) (ram ram′ : List ℕ) → d ≡ c → ram′ ≡ ram → KnownOf wait low n ram (c .receiver .listener)
+      → KnownOf wait low n ram′ (d .receiver .listener)
   of-equals n c d ram ram′ e p k =
-      subst (λ (x : Chip). KnownOf wait low n ram′ (x .listener)) (sym e)
-      (subst (λ (x : List ℕ). KnownOf wait low n x (c .listener)) (sym p) k)
+      subst (λ (x : Chip). KnownOf wait low n ram′ (x .receiver .listener)) (sym e)
+      (subst (λ (x : List ℕ). KnownOf wait low n x (c .receiver .listener)) (sym p) k)
 
-  known : (n : ℕ) (s : State) → Played wait low n s → KnownOf wait low n (s .ram) (s .chip .listener)
+  known : (n : ℕ) (s : State) → Played wait low n s → KnownOf wait low n (s .ram) (s .chip .receiver .listener)
   known _ _ (started ram eeprom fault c e) =
-      subst (λ (x : Chip). KnownOf wait low 0 ram (x .listener)) (sym (start-fresh ram eeprom fault c e)) refl
+      subst (λ (x : Chip). KnownOf wait low 0 ram (x .receiver .listener)) (sym (start-fresh ram eeprom fault c e)) refl
   known _ _ (stepped n s r ram eeprom p e) =
       let left = step-taken (s .chip) (s .ram) (s .eeprom) (wait (n + 1)) (low (n + 1)) r ram eeprom e in
       of-equals (n + 1) _ (r .chip) _ ram (left .chip-after) (left .ram-after) (next wait low n s p (known n s p))
@@ -57,8 +57,8 @@ module _ (wait low : ℕ → ℕ) where
         checksum = k .acknowledged;
       }
 
-  pub launched-from-download : (n : ℕ) (s : State) → Played wait low n s → s .chip .listener .phase ≡ Ended Launched → Download wait low n
+  pub launched-from-download : (n : ℕ) (s : State) → Played wait low n s → s .chip .receiver .listener .phase ≡ Ended Launched → Download wait low n
   launched-from-download n s p e =
-      let l = s .chip .listener in
+      let l = s .chip .receiver .listener in
       from-download n (l .threshold .0) (l .command)
       (subst (Known wait low n (s .ram) (l .threshold .0) (l .command)) e (known n s p))

@@ -22,8 +22,10 @@ use Rattle.phases.specs.declared.Phase.the-variants.{First, Second, Handshake, 
 use Rattle.phases.specs.declared.Reply.the-variants.{Connection, Acknowledging}
 use Rattle.listener.specs.Heard.{withThreshold, withCommand, withSize, led, booting, launching, shutting, agree, afterDraw, compared, afterConnection, stored, verified, acknowledged, receivedCommand, receivedSize, receivedLong, readCommand, readSize, readLong, aligned, heard}
 use Rattle.listener.specs.Heard as said
-use Rattle.listener.specs.Hears.{hears, failed, settled}
-use Rattle.listener.specs.Late.{lateAcknowledgement, afterLate}
+use Rattle.listener.specs.Settled.{failed, settled}
+use Rattle.receiver.specs.Hears.{hears}
+use Rattle.receiver.specs.declared.Received.{Received}
+use Rattle.receiver.specs.Late.{lateAcknowledgement, afterLate}
 use Rattle.line.specs.Reading.{thresholdOf, reads, grown}
 use Rattle.listener.specs.declared.Event.{Event}
 use Rattle.listener.specs.declared.Event.the-variants.{Nothing, Store, Finish, Program, Verify}
@@ -218,7 +220,7 @@ module _ (wait low : ℕ → ℕ) (n : ℕ) (s : State) (played : Played wait lo
         (λ e. idle l (Align a) Silence (later low n t c (k .0), summed-on a (k .1)))
         (λ e. idle l (Answer (Acknowledging a)) Silence (later low n t c (k .0), summed-on a (k .1)))
 
-    answers : (a : Acknowledgement) → s .chip .listener .phase ≡ Answer (Acknowledging a) → Summed wait low n (s .ram) a → Answered wait low (n + 1) a
+    answers : (a : Acknowledgement) → s .chip .receiver .listener .phase ≡ Answer (Acknowledging a) → Summed wait low n (s .ram) a → Answered wait low (n + 1) a
     answers Stored e k = record { pulses = n; earlier = omega arith; state = s; played = played; answering = e; sum = k }
     answers Programmed e k = since wait low n k
     answers Verified e k = since wait low n k
@@ -232,7 +234,7 @@ module _ (wait low : ℕ → ℕ) (n : ℕ) (s : State) (played : Played wait lo
     ends Off k = tt
 
     -- A pulse that is read.
-    heard-next : (phase : Phase) → s .chip .listener .phase ≡ phase → Here phase
+    heard-next : (phase : Phase) → s .chip .receiver .listener .phase ≡ phase → Here phase
         → Next (heard l phase (low (n + 1)) (reads t (low (n + 1))))
     heard-next First e k =
         let one : n + 1 ≡ 1 = omega (arith, k) in
@@ -283,8 +285,8 @@ module _ (wait low : ℕ → ℕ) (n : ℕ) (s : State) (played : Played wait lo
     late-next (Align a) h = boots l
     late-next (Ended x) h = idle l (Ended x) Silence (ends x h)
 
-  pub next : KnownOf wait low n (s .ram) (s .chip .listener) → Next (hears (s .chip .listener) (wait (n + 1)) (low (n + 1)))
+  pub next : KnownOf wait low n (s .ram) (s .chip .receiver .listener) → Next (hears (s .chip .receiver) (wait (n + 1)) (low (n + 1)) .heard)
   unfolding hears
   next k =
-      let l = s .chip .listener in
-      when-elim Next _ _ _ (λ e. late-next l (l .phase) k) (λ e. heard-next l (l .phase) refl k)
+      let l = s .chip .receiver .listener in
+      when-elim (λ (r : Received). Next (r .heard)) _ _ _ (λ e. late-next l (l .phase) k) (λ e. heard-next l (l .phase) refl k)

@@ -33,7 +33,7 @@ pub record Acknowledged (wait low : ℕ → ℕ) (n : ℕ) : Type 0 where
   pub earlier : pulses < n
   pub state : State
   pub played : Played wait low pulses state
-  pub answering : state .chip .listener .phase ≡ Answer (Acknowledging Stored)
+  pub answering : state .chip .receiver .listener .phase ≡ Answer (Acknowledging Stored)
   pub sum : total (state .ram) % 256 ≡ 0
 
 -- Among so many pulses: 250 matching bits, command 1 or 3, and a checksum of 0.

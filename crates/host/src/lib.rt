@@ -1,10 +1,12 @@
 // The host planner: a session in time, one pulse a step.
 ghost use mathlib.Core.Path.{_≡_};
+ghost use Rattle.place.specs.Endings.{endAt, toldEnd};
 ghost use Rattle.host.specs.Step.{hostStart, hostStep, toldBegun, toldPlanned};
 
 mod ranges;
 mod time;
 
+use place::HostEnd;
 use session::Session;
 use session::Started;
 use session::Stepped;
@@ -84,5 +86,15 @@ impl Host {
                 })
             }
         }
+    }
+
+    // Whether the session goes on, or how it has ended.
+    pub fn end(self) -> HostEnd
+        ensures { λ r. ⌜ toldEnd r ≡ endAt (self .session .place .phase) ⌝ }
+    {
+        let session = self.session;
+        let place = session.place;
+        let phase = place.phase;
+        phase.end()
     }
 }

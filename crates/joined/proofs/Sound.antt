@@ -16,7 +16,7 @@ use Rattle.host.specs.Step.{hostRows, hostStep, timed}
 use Rattle.host.specs.declared.Sent.{Sent}
 use Rattle.host.proofs.Kept.{Kept, step-keeps}
 use Rattle.phases.specs.Phases as chip
-use Rattle.listener.specs.Hears.{hears}
+use Rattle.receiver.specs.Hears.{hears}
 use Rattle.listener.specs.declared.Event.{Event}
 use Rattle.listener.specs.declared.Event.the-variants.{Nothing, Store, Finish, Program, Verify, Launch, Boot}
 use Rattle.eeprom.specs.declared.Fault.{Fault}
@@ -28,7 +28,8 @@ use Rattle.chip.specs.Reached.{Reached, stepped}
 use Rattle.chip.proofs.Reached.{chip-kept, reached-kept}
 use Rattle.chip.proofs.Steps.{step-played}
 use Rattle.joined.specs.Ends.{Unrefused}
-use Rattle.joined.specs.Joined.{State, Measuring, listened, sees, replied, met, sentTo, sent, pulsed, hostEnded}
+use Rattle.bits.specs.Seeing.{sees}
+use Rattle.joined.specs.Joined.{State, Measuring, listened, replied, met, sentTo, sent, pulsed, hostEnded}
 
 -- What is known of both sides between two pulses.
 pub record Sound (image : List ℕ) (s : State) : Type 0 where
@@ -77,19 +78,19 @@ module _ (measured : Measuring) (image : List ℕ) (s : State) (k : Sound image 
     pub eeprom-size : length (l .eeprom) ≡ 32768
     pub unrefused : (n : ℕ) → l .answer ≡ refused n → ⊥
 
-  pub chip-plays : chip.ended (s .chip .listener .phase) ≡ false → (wait low : ℕ)
-      → pulse (s .chip) (s .ram) (s .eeprom) (hears (s .chip .listener) wait low) ≡ chipStep (s .chip) (s .ram) (s .eeprom) wait low
+  pub chip-plays : chip.ended (s .chip .receiver .listener .phase) ≡ false → (wait low : ℕ)
+      → pulse (s .chip) (s .ram) (s .eeprom) (hears (s .chip .receiver) wait low) ≡ chipStep (s .chip) (s .ram) (s .eeprom) wait low
   chip-plays e wait low =
       step-played (s .chip) (s .ram) (s .eeprom) wait low
       (agrees _ _ (k .ram-size), (agrees _ _ (k .eeprom-size), (chip-kept (s .chip) .1 (reached-kept (s .chip) (k .reached)), (e, tt))))
 
-  plays-fine : chip.ended (s .chip .listener .phase) ≡ false → (wait low : ℕ) → Fine (chipStep (s .chip) (s .ram) (s .eeprom) wait low)
+  plays-fine : chip.ended (s .chip .receiver .listener .phase) ≡ false → (wait low : ℕ) → Fine (chipStep (s .chip) (s .ram) (s .eeprom) wait low)
   plays-fine e wait low =
-      let heard = hears (s .chip .listener) wait low in
+      let heard = hears (s .chip .receiver) wait low in
       subst Fine (chip-plays e wait low) (record {
         reached = stepped (s .chip) (s .ram) (s .eeprom) wait low _ _ _ (k .reached) (sym (chip-plays e wait low));
-        ram-size = done-ram (s .chip .fault) (heard .event) (s .ram) (s .eeprom) ∙ k .ram-size;
-        eeprom-size = done-eeprom (s .chip .fault) (heard .event) (s .ram) (s .eeprom) ∙ k .eeprom-size;
+        ram-size = done-ram (s .chip .fault) (heard .heard .event) (s .ram) (s .eeprom) ∙ k .ram-size;
+        eeprom-size = done-eeprom (s .chip .fault) (heard .heard .event) (s .ram) (s .eeprom) ∙ k .eeprom-size;
         unrefused = λ n q. not-both (sym q);
       })
 
@@ -98,7 +99,7 @@ module _ (measured : Measuring) (image : List ℕ) (s : State) (k : Sound image 
   listened-fine =
       when-elim
       Fine
-      (chip.ended (s .chip .listener .phase))
+      (chip.ended (s .chip .receiver .listener .phase))
       _
       _
       (λ e. record {

@@ -18,7 +18,8 @@ use Rattle.chip.specs.Step.{Left, left, chipStep, toldStepped}
 use Rattle.chip.specs.declared.Played.{Played}
 use Rattle.chip.specs.declared.Stepped.{Stepped}
 use Rattle.chip.specs.declared.Stepped.the-variants as stepped
-use Rattle.joined.specs.Joined.{State, Measuring, sees, waited, lasted, listened, met, sentTo, pulsed, hostEnded, played}
+use Rattle.bits.specs.Seeing.{sees}
+use Rattle.joined.specs.Joined.{State, Measuring, waited, lasted, listened, met, sentTo, pulsed, hostEnded, played}
 use Rattle.joined.specs.Run.{state, after}
 use Rattle.joined.specs.declared.Joined.{Joined}
 
@@ -66,7 +67,7 @@ module _ (measured : Measuring) (image : List ℕ) where
 module _ (measured : Measuring) (j : Joined) (ram eeprom : List ℕ) where
   module _ (sent : Sent) where
     -- The chip has ended.
-    pub listened-ended : (x : Joined) → x ≡ after sent (j .chip) Silence → chip.ended (j .chip .listener .phase) ≡ true
+    pub listened-ended : (x : Joined) → x ≡ after sent (j .chip) Silence → chip.ended (j .chip .receiver .listener .phase) ≡ true
         → state x ram eeprom ≡ met (j .chip) sent (listened measured (state j ram eeprom) sent)
     unfolding listened
     listened-ended x h e = ap (λ (y : Joined). state y ram eeprom) h ∙ ap (met (j .chip) sent) (sym (when-true _ _ e))
@@ -75,7 +76,7 @@ module _ (measured : Measuring) (j : Joined) (ram eeprom : List ℕ) where
     pub stepped-so : (l : Left) (wait low ticks : ℕ) → l ≡ chipStep (j .chip) ram eeprom wait low
         → wait ≡ waited measured (j .host .session .pulses) (sent .fall .0 - j .rise .0)
         → low ≡ lasted measured (j .host .session .pulses) ticks → ticks ≡ sent .rise .0 - sent .fall .0
-        → chip.ended (j .chip .listener .phase) ≡ false → l ≡ listened measured (state j ram eeprom) sent
+        → chip.ended (j .chip .receiver .listener .phase) ≡ false → l ≡ listened measured (state j ram eeprom) sent
     unfolding listened
     stepped-so l wait low ticks q w d b listens = rw (when-false _ _ listens, ← b, ← d, ← w) q
 

@@ -7,26 +7,21 @@ use Rattle.terms.proofs.Answers.{OneOutcome, Leaves, back, one-left}
 use Rattle.terms.specs.Refusals.{Answer}
 use Rattle.place.specs.declared.Ending.{Ending}
 use Rattle.place.specs.declared.Ending.the-variants.{Lost}
-use Rattle.place.specs.declared.Phase.{Phase}
-use Rattle.place.specs.declared.Phase.the-variants.{Calibration, Handshake, Connection, Version, Command, Zeros, Size, Image, Wait, Ended}
+use Rattle.place.specs.Endings as host
+use Rattle.place.proofs.Endings.{numbered, numbered-number}
+use Rattle.phases.specs.Endings.{toldEnd}
+use Rattle.phases.specs.declared.ChipEnd.{ChipEnd}
+use Rattle.phases.proofs.Endings.{backEnd, back-told-end}
 use Rattle.joined.specs.Run.{Outcome, Left, toldRan}
 use Rattle.joined.specs.declared.Ran.{Ran}
 use Rattle.joined.specs.declared.Ran.the-variants as ran
 use Rattle.joined.proofs.run.Kinds as run-kinds
 use Rattle.joined.proofs.run.Reads as run
 
--- The ending that a phase is; no told phase is another.
-abbrev endingOf : Phase → Ending
-endingOf Calibration = Lost
-endingOf Handshake = Lost
-endingOf Connection = Lost
-endingOf (Version v) = Lost
-endingOf Command = Lost
-endingOf Zeros = Lost
-endingOf Size = Lost
-endingOf Image = Lost
-endingOf (Wait a) = Lost
-endingOf (Ended e) = e
+-- The ending that is told of a host; of one that goes on none is told.
+abbrev endingOf : host.End → Ending
+endingOf host.going = Lost
+endingOf (host.ended n) = numbered n
 
 abbrev backRan : Answer Outcome → Ran
 backRan = back ran.Refused (λ o. ran.Finished (record {
@@ -36,12 +31,22 @@ backRan = back ran.Refused (λ o. ran.Finished (record {
   ticks = record { 0 = o .ticks };
   risen = o .risen;
   host = endingOf (o .host);
-  chip = o .chip;
+  chip = backEnd (o .chip);
 }))
 
 pub back-told-ran : (r : Ran) → backRan (toldRan r) ≡ r
 back-told-ran (ran.Refused n) = refl
-back-told-ran (ran.Finished r) = refl
+back-told-ran (ran.Finished r) =
+    let with : Ending → ChipEnd → Ran = λ h c. ran.Finished (record {
+      pulses = r .pulses;
+      ones = r .ones;
+      zeros = r .zeros;
+      ticks = r .ticks;
+      risen = r .risen;
+      host = h;
+      chip = c;
+    }) in
+    ap (λ (h : Ending). with h (backEnd (toldEnd (r .chip)))) (numbered-number (r .host)) ∙ ap (with (r .host)) (back-told-end (r .chip))
 
 pub run-one : OneOutcome run-kinds.ps run-kinds.r run.Post {X = Leaves Ran}
     (λ κs r e. record { answer = r; ram = now (e .1 .1 .1 .1 .1 .1 .1 .0); eeprom = now (e .1 .1 .1 .1 .1 .1 .1 .1 .0) })

@@ -18,7 +18,7 @@ after measured image (suc n) s = after measured image n (pulsed measured image s
 pub record Unrefused (measured : Measuring) (image : List ℕ) (s : State) : Type 0 where
   pub pulse : Sent
   pub by-host : sent image s ≡ taken pulse
-  pub by-chip : chip.ended (s .chip .listener .phase) ≡ false → (n : ℕ) → listened measured s pulse .answer ≡ refused n → ⊥
+  pub by-chip : chip.ended (s .chip .receiver .listener .phase) ≡ false → (n : ℕ) → listened measured s pulse .answer ≡ refused n → ⊥
 
 -- Within the budget the host ends; until then no step is refused, and a run is these pulses.
 pub record Ends (measured : Measuring) (image : List ℕ) (most : ℕ) (s : State) : Type 0 where

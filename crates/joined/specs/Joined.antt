@@ -10,10 +10,8 @@ use Rattle.units.specs.Line.{silence, seen}
 use Rattle.units.specs.Units.{loopsIn}
 use Rattle.units.specs.declared.Seen.{Seen}
 use Rattle.units.specs.declared.Seen.the-variants.{Silence}
-use Rattle.bits.specs.Bits.{pairBit}
+use Rattle.bits.specs.Seeing.{sees}
 use Rattle.place.specs.Phases as place
-use Rattle.place.specs.declared.Phase.{Phase}
-use Rattle.place.specs.declared.Phase.the-variants.{Calibration, Handshake, Connection, Version, Command, Zeros, Size, Image, Wait, Ended}
 use Rattle.host.specs.Step.{hostStep}
 use Rattle.host.specs.declared.Host.{Host}
 use Rattle.host.specs.declared.Sent.{Sent}
@@ -40,22 +38,6 @@ Measuring = ℕ → ℕ → ℕ
 abbrev pub roundedDown : ℕ → ℕ → Measuring
 roundedDown p l n ticks = loopsIn ticks p l
 
--- The host sees the reply to the first pulse of a pair in the call that sends the second; elsewhere silence.
-unfoldable pub aroundFirst : ℕ → Seen → Seen
-aroundFirst i reply = when (pairBit i) Silence reply
-
-abbrev pub sees : Phase → ℕ → Seen → Seen
-sees Calibration i reply = aroundFirst i reply
-sees Handshake i reply = Silence
-sees Connection i reply = aroundFirst i reply
-sees (Version v) i reply = aroundFirst i reply
-sees Command i reply = Silence
-sees Zeros i reply = Silence
-sees Size i reply = Silence
-sees Image i reply = Silence
-sees (Wait a) i reply = aroundFirst i reply
-sees (Ended e) i reply = Silence
-
 -- The loops of the wait before pulse n: the first measures 0.
 unfoldable pub waited : Measuring → ℕ → ℕ → ℕ
 waited measured n ticks = when (eqb n 0) 0 (measured (n * 2) ticks)
@@ -67,7 +49,7 @@ lasted measured n ticks = measured (n * 2 + 1) ticks
 -- A pulse played to the chip: it fell after the last rise, and rose after its fall. A chip that has ended stays silent.
 unfoldable pub listened : Measuring → State → Sent → Left
 listened measured s sent =
-    when (chip.ended (s .chip .listener .phase))
+    when (chip.ended (s .chip .receiver .listener .phase))
     (left (taken (record { chip = s .chip; reply = silence })) (s .ram) (s .eeprom))
     (chipStep
     (s .chip)

@@ -4,36 +4,19 @@ use mathlib.Core.List.{List}
 use Prim.Native.Nat.{ℕ}
 use Rattle.terms.specs.Refusals.{Answer, refused, taken}
 use Rattle.units.specs.declared.Seen.{Seen}
-use Rattle.place.specs.declared.Phase.{Phase}
-use Rattle.place.specs.declared.Phase.the-variants as place
+use Rattle.place.specs.Endings as place
 use Rattle.host.specs.Step.{hostStart}
 use Rattle.host.specs.declared.Host.{Host}
 use Rattle.host.specs.declared.Sent.{Sent}
-use Rattle.phases.specs.declared.Phase as phases
-use Rattle.phases.specs.declared.Phase.the-variants as at
+use Rattle.phases.specs.Endings as phases
 use Rattle.eeprom.specs.declared.Fault.{Fault}
 use Rattle.chip.specs.Step.{chipStart}
 use Rattle.chip.specs.declared.Chip.{Chip}
 use Rattle.joined.specs.Joined.{State, Measuring, roundedDown, played, begun}
-use Rattle.joined.specs.declared.ChipEnd.{ChipEnd}
-use Rattle.joined.specs.declared.ChipEnd.the-variants as chip
 use Rattle.joined.specs.declared.Joined.{Joined}
 use Rattle.joined.specs.declared.Ran.{Ran}
 use Rattle.joined.specs.declared.Ran.the-variants as ran
 use Rattle.joined.specs.declared.Report.{Report}
-
--- The chip's ending, or that it still listens.
-abbrev pub chipEnd : phases.Phase → ChipEnd
-chipEnd at.First = chip.Listening
-chipEnd (at.Second d) = chip.Listening
-chipEnd (at.Handshake k) = chip.Listening
-chipEnd (at.Answer r) = chip.Listening
-chipEnd (at.Rest r) = chip.Listening
-chipEnd (at.Command n bits) = chip.Listening
-chipEnd (at.Size n bits) = chip.Listening
-chipEnd (at.Long n k bits) = chip.Listening
-chipEnd (at.Align a) = chip.Listening
-chipEnd (at.Ended e) = chip.Ended e
 
 -- What a run comes to: pulses sent, bits 1, bits 0, the tick of the last rise and its exact time, and where host and chip stand.
 pub record Outcome : Type 0 where
@@ -42,8 +25,8 @@ pub record Outcome : Type 0 where
   pub zeros : ℕ
   pub ticks : ℕ
   pub risen : ℕ
-  pub host : Phase
-  pub chip : ChipEnd
+  pub host : place.End
+  pub chip : phases.End
 
 abbrev pub outcome : Host → Chip → ℕ → ℕ → Outcome
 outcome host chip rise risen = record {
@@ -52,8 +35,8 @@ outcome host chip rise risen = record {
   zeros = host .session .zeros;
   ticks = rise;
   risen = risen;
-  host = host .session .place .phase;
-  chip = chipEnd (chip .listener .phase);
+  host = place.endAt (host .session .place .phase);
+  chip = phases.endAt (chip .receiver .listener .phase);
 }
 
 -- What a run leaves: its answer, and both memories.
@@ -94,8 +77,8 @@ toldReport r = record {
   zeros = r .zeros;
   ticks = r .ticks .0;
   risen = r .risen;
-  host = place.Ended (r .host);
-  chip = r .chip;
+  host = place.ended (place.number (r .host));
+  chip = phases.toldEnd (r .chip);
 }
 
 abbrev pub toldRan : Ran → Answer Outcome

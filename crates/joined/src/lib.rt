@@ -2,8 +2,8 @@
 ghost use mathlib.Core.Bool.{true};
 ghost use mathlib.Core.Path.{_≡_};
 ghost use Rattle.place.specs.Phases.{ended};
-ghost use Rattle.place.specs.declared.Phase.the-variants.{Ended};
-ghost use Rattle.joined.specs.Run.{chipEnd, left, outcome, runOf, toldRan, toldReport};
+ghost use Rattle.place.specs.declared.HostEnd.the-variants.{Ended, Going};
+ghost use Rattle.joined.specs.Run.{left, outcome, runOf, toldRan, toldReport};
 
 mod pulses;
 
@@ -12,16 +12,11 @@ use chip::Started;
 use eeprom::Fault;
 use host::Begun;
 use host::Host;
-use phases::Phase;
+use phases::ChipEnd;
 use place::Ending;
+use place::HostEnd;
 use units::Seen;
 use units::Ticks;
-
-// Where the chip stands when the host has ended.
-pub enum ChipEnd {
-    Listening,
-    Ended(phases::Ending),
-}
 
 // What a run came to: the pulses sent, the bits 1 and 0 among them, the tick of the last rise and its exact time, in ps, and both
 // endings.
@@ -91,8 +86,6 @@ fn reported(end: Joined) -> Report
 {
     let host = end.host;
     let session = host.session;
-    let place = session.place;
-    let phase = place.phase;
     let chip = end.chip;
     let ticks = end.rise;
     Report {
@@ -101,45 +94,18 @@ fn reported(end: Joined) -> Report
         zeros: session.zeros,
         ticks,
         risen: end.risen,
-        host: ending(phase),
-        chip: chip_end(chip),
+        host: ending(host.end()),
+        chip: chip.end(),
     }
 }
 
 // The ending of a session that has ended.
-fn ending(phase: place::Phase) -> Ending
-    requires { ⌜ ended phase ≡ true ⌝ }
-    ensures { λ r. ⌜ Ended r ≡ phase ⌝ }
+fn ending(end: HostEnd) -> Ending
+    requires { ⌜ (end ≡ Going → ⊥) ⌝ }
+    ensures { λ r. ⌜ Ended r ≡ end ⌝ }
 {
-    match phase {
-        place::Phase::Calibration => Ending::Lost,
-        place::Phase::Handshake => Ending::Lost,
-        place::Phase::Connection => Ending::Lost,
-        place::Phase::Version(_) => Ending::Lost,
-        place::Phase::Command => Ending::Lost,
-        place::Phase::Zeros => Ending::Lost,
-        place::Phase::Size => Ending::Lost,
-        place::Phase::Image => Ending::Lost,
-        place::Phase::Wait(_) => Ending::Lost,
-        place::Phase::Ended(ending) => ending,
-    }
-}
-
-fn chip_end(chip: Chip) -> ChipEnd
-    ensures { λ r. ⌜ r ≡ chipEnd (chip .listener .phase) ⌝ }
-{
-    let listener = chip.listener;
-    let phase = listener.phase;
-    match phase {
-        Phase::First => ChipEnd::Listening,
-        Phase::Second(_) => ChipEnd::Listening,
-        Phase::Handshake(_) => ChipEnd::Listening,
-        Phase::Answer(_) => ChipEnd::Listening,
-        Phase::Rest(_) => ChipEnd::Listening,
-        Phase::Command(_, _) => ChipEnd::Listening,
-        Phase::Size(_, _) => ChipEnd::Listening,
-        Phase::Long(_, _, _) => ChipEnd::Listening,
-        Phase::Align(_) => ChipEnd::Listening,
-        Phase::Ended(ending) => ChipEnd::Ended(ending),
+    match end {
+        HostEnd::Going => Ending::Lost,
+        HostEnd::Ended(ending) => ending,
     }
 }

@@ -1,9 +1,8 @@
 // The pulses of a run: each sent by the host, measured, and played to the chip.
 ghost use mathlib.Core.Path.{_≡_};
 ghost use Prim.Native.Nat.{_-_};
-ghost use Rattle.phases.specs.Phases as phases;
-ghost use Rattle.place.specs.Phases.{ended};
-ghost use Rattle.joined.specs.Joined.{aroundFirst, listened, met, played, pulsed, roundedDown, sees, waited};
+ghost use Rattle.bits.specs.Seeing.{sees};
+ghost use Rattle.joined.specs.Joined.{listened, met, played, pulsed, roundedDown, waited};
 ghost use Rattle.joined.specs.Run.{after, budget, state};
 use crate::Joined;
 use chip::Chip;
@@ -12,7 +11,8 @@ use chip::Stepped;
 use host::Host;
 use host::Planned;
 use host::Sent;
-use place::Phase;
+use phases::ChipEnd;
+use place::HostEnd;
 use units::Loops;
 use units::Seen;
 use units::Ticks;
@@ -35,21 +35,14 @@ pub(crate) fn play(
     let mut left = BUDGET;
     while 0 < left {
         let host = joined.host;
-        if has_ended(host) {
+        let end = host.end();
+        if let HostEnd::Ended(_) = end {
             return joined;
         }
         joined = pulse(joined, image, p, l, ram, eeprom);
         left -= 1;
     }
     joined
-}
-
-fn has_ended(host: Host) -> bool
-    ensures { λ r. ⌜ r ≡ ended (host .session .place .phase) ⌝ }
-{
-    let session = host.session;
-    let place = session.place;
-    place.has_ended()
 }
 
 fn pulse(joined: Joined, image: &[u8], p: u32, l: u32, ram: &mut [u8], eeprom: &mut [u8]) -> Joined
@@ -63,40 +56,13 @@ fn pulse(joined: Joined, image: &[u8], p: u32, l: u32, ram: &mut [u8], eeprom: &
     }
 }
 
+// What the host sees in its next call.
 fn seen(host: Host, reply: Seen) -> Seen
     ensures { λ r. ⌜ r ≡ sees (host .session .place .phase) (host .session .place .index) reply ⌝ }
 {
     let session = host.session;
     let place = session.place;
-    let phase = place.phase;
-    sees(phase, place.index, reply)
-}
-
-// What the host sees in the call that sends the pulse at a place.
-fn sees(phase: Phase, index: u32, reply: Seen) -> Seen
-    ensures { λ r. ⌜ r ≡ sees phase index reply ⌝ }
-{
-    match phase {
-        Phase::Calibration => around_first(index, reply),
-        Phase::Handshake => Seen::Silence,
-        Phase::Connection => around_first(index, reply),
-        Phase::Version(_) => around_first(index, reply),
-        Phase::Command => Seen::Silence,
-        Phase::Zeros => Seen::Silence,
-        Phase::Size => Seen::Silence,
-        Phase::Image => Seen::Silence,
-        Phase::Wait(_) => around_first(index, reply),
-        Phase::Ended(_) => Seen::Silence,
-    }
-}
-
-fn around_first(index: u32, reply: Seen) -> Seen
-    ensures { λ r. ⌜ r ≡ aroundFirst index reply ⌝ }
-{
-    if index % 2 == 0 {
-        return Seen::Silence;
-    }
-    reply
+    bits::sees(place, reply)
 }
 
 // The pulse played to the chip, unless that has ended.
@@ -104,7 +70,8 @@ fn listen(joined: Joined, sent: Sent, p: u32, l: u32, ram: &mut [u8], eeprom: &m
     ensures { λ r. ⌜ state r (now (ram .exit)) (now (eeprom .exit)) ≡ met (joined .chip) sent (listened (roundedDown p l) (state joined (now (ram .entry)) (now (eeprom .entry))) sent) ⌝ }
 {
     let chip = joined.chip;
-    if is_deaf(chip) {
+    let end = chip.end();
+    if let ChipEnd::Ended(_) = end {
         return met(sent, chip, Seen::Silence);
     }
     let last = joined.rise;
@@ -116,15 +83,6 @@ fn listen(joined: Joined, sent: Sent, p: u32, l: u32, ram: &mut [u8], eeprom: &m
         Stepped::Refused(_) => met(sent, chip, Seen::Silence),
         Stepped::Taken(played) => answered(sent, played),
     }
-}
-
-// Whether a chip has ended.
-fn is_deaf(chip: Chip) -> bool
-    ensures { λ r. ⌜ r ≡ phases.ended (chip .listener .phase) ⌝ }
-{
-    let listener = chip.listener;
-    let phase = listener.phase;
-    phase.has_ended()
 }
 
 // The loops of the wait before a pulse, between two edges; before the first pulse sent it measures 0.

@@ -1,4 +1,3 @@
 pub mod Heard
-pub mod Hears
-pub mod Late
 pub mod Ranges
+pub mod Settled

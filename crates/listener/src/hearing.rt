@@ -1,7 +1,7 @@
 // Where a timely pulse leads, by what the pulse is to the chip.
 ghost use mathlib.Core.Path.{_≡_};
 ghost use Rattle.listener.specs.Heard.{heard};
-ghost use Rattle.listener.specs.Hears.{failed};
+ghost use Rattle.listener.specs.Settled.{failed};
 use crate::Event;
 use crate::Heard;
 use crate::Listener;

@@ -1,12 +1,12 @@
 // The chip as it listens, without memories: how it reads a pulse, where that leads, what it replies, and which work on the memories it
 // calls for.
 ghost use mathlib.Core.Path.{_≡_};
-ghost use Rattle.listener.specs.Hears.{hears, settled};
+ghost use Rattle.listener.specs.Heard.{heard};
+ghost use Rattle.listener.specs.Settled.{settled};
 ghost use Rattle.listener.specs.Ranges.{listenerOutside};
 
 mod handshake;
 mod hearing;
-mod late;
 mod leading;
 mod replies;
 mod values;
@@ -69,14 +69,11 @@ impl Listener {
         phase.is_outside(self.command, self.size)
     }
 
-    // What a pulse leads to: `wait` is the high before it, `low` its own length. A chip that has ended stays so.
-    pub fn hears(self, wait: Loops, low: Loops) -> Heard
-        ensures { λ r. ⌜ r ≡ hears self (wait .0) (low .0) ⌝ }
+    // What a timely pulse leads to: `low` is its length, and `bit` what it reads as. A chip that has ended stays so.
+    pub fn hears(self, low: Loops, bit: bool) -> Heard
+        ensures { λ r. ⌜ r ≡ heard self (self .phase) (low .0) bit ⌝ }
     {
-        if late::is_late(self, wait, low) {
-            return late::timed_out(self);
-        }
-        hearing::heard(self, low, line::reads(self.threshold, low))
+        hearing::heard(self, low, bit)
     }
 }
 

@@ -3,6 +3,7 @@
 use host::Begun;
 use host::Host;
 use host::Planned;
+use place::HostEnd;
 use place::Phase;
 use place::Place;
 use units::Seen;
@@ -45,12 +46,9 @@ fn print(end: Progress) {
     line(b"zeros ", session.zeros as u64);
     line(b"ticks ", end.rise.0);
     line(b"edges ", end.edges);
-    let place = session.place;
-    let phase = place.phase;
-    if let Phase::Ended(ending) = phase {
-        line(b"host ", ending.number() as u64);
-    } else {
-        io::write_all(1, b"host going on\n");
+    match host.end() {
+        HostEnd::Going => say(b"host going on\n"),
+        HostEnd::Ended(ending) => line(b"host ", ending.number() as u64),
     }
 }
 
@@ -112,7 +110,11 @@ fn acknowledged(index: u32) -> Seen {
 }
 
 fn line(name: &[u8], n: u64) {
-    io::write_all(1, name);
+    say(name);
     io::print_decimal(1, n);
-    io::write_all(1, b"\n");
+    say(b"\n");
+}
+
+fn say(words: &[u8]) {
+    io::write_all(1, words);
 }

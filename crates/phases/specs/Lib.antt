@@ -1,2 +1,3 @@
+pub mod Endings
 pub mod Phases
 pub mod Ranges

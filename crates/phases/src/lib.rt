@@ -1,5 +1,6 @@
 // The phases of a chip: what the next pulse is to it, from the calibration to its ending.
 ghost use mathlib.Core.Path.{_≡_};
+ghost use Rattle.phases.specs.Endings.{endAt, toldEnd};
 ghost use Rattle.phases.specs.Phases.{ended};
 ghost use Rattle.phases.specs.Ranges.{acknowledgementOutside, drawOutside, phaseOutside, sizeOutside};
 ghost use Rattle.phases.specs.Ranges.{leastAcknowledged, leastAfter, longOutside, replyOutside};
@@ -45,6 +46,12 @@ pub enum Phase {
     Ended(Ending),
 }
 
+// Whether a chip still listens, or how it has ended.
+pub enum ChipEnd {
+    Listening,
+    Ended(Ending),
+}
+
 impl Phase {
     // The longest wait, or low, that is no time-out.
     pub const LAST_TIMELY: Loops = Loops(249_999);
@@ -76,6 +83,24 @@ impl Phase {
             Phase::Long(_, _, _) => false,
             Phase::Align(_) => false,
             Phase::Ended(_) => true,
+        }
+    }
+
+    // Whether the chip still listens, or how it has ended.
+    pub fn end(self) -> ChipEnd
+        ensures { λ r. ⌜ toldEnd r ≡ endAt self ⌝ }
+    {
+        match self {
+            Phase::First => ChipEnd::Listening,
+            Phase::Second(_) => ChipEnd::Listening,
+            Phase::Handshake(_) => ChipEnd::Listening,
+            Phase::Answer(_) => ChipEnd::Listening,
+            Phase::Rest(_) => ChipEnd::Listening,
+            Phase::Command(_, _) => ChipEnd::Listening,
+            Phase::Size(_, _) => ChipEnd::Listening,
+            Phase::Long(_, _, _) => ChipEnd::Listening,
+            Phase::Align(_) => ChipEnd::Listening,
+            Phase::Ended(ending) => ChipEnd::Ended(ending),
         }
     }
 

@@ -1,9 +1,15 @@
 -- Each public call has one answer. `Post` is the promise that is generated from the call's contract.
 -- Assumes nothing.
 use mathlib.Core.Path.{sym, _∙_}
-use Rattle.terms.proofs.Answers.{OneAnswer}
+use Rattle.terms.proofs.Answers.{OneAnswer, one-told}
+use Rattle.place.specs.Endings.{toldEnd}
+use Rattle.place.proofs.Endings.{backEnd, back-told-end}
 use Rattle.place.proofs.Ending.number.Kinds as number-kinds
 use Rattle.place.proofs.Ending.number.Reads as number
+use Rattle.place.proofs.Phase.carries.Kinds as carries-kinds
+use Rattle.place.proofs.Phase.carries.Reads as carries
+use Rattle.place.proofs.Phase.end.Kinds as end-kinds
+use Rattle.place.proofs.Phase.end.Reads as end
 use Rattle.place.proofs.Phase.places.Kinds as places-kinds
 use Rattle.place.proofs.Phase.places.Reads as places
 use Rattle.place.proofs.Place.has_ended.Kinds as has-ended-kinds
@@ -18,6 +24,12 @@ number-one κs a r₁ r₂ e₁ e₂ p q = p ∙ sym q
 
 pub places-one : OneAnswer places-kinds.ps places-kinds.r places.Post
 places-one κs a r₁ r₂ e₁ e₂ p q = p ∙ sym q
+
+pub carries-one : OneAnswer carries-kinds.ps carries-kinds.r carries.Post
+carries-one κs a r₁ r₂ e₁ e₂ p q = p ∙ sym q
+
+pub end-one : OneAnswer end-kinds.ps end-kinds.r end.Post
+end-one κs a r₁ r₂ e₁ e₂ p q = one-told toldEnd backEnd back-told-end r₁ r₂ p q
 
 pub is-outside-one : OneAnswer is-outside-kinds.ps is-outside-kinds.r is-outside.Post
 is-outside-one κs a r₁ r₂ e₁ e₂ p q = p ∙ sym q

@@ -5,8 +5,23 @@ use Prim.Native.Nat.{ℕ, _*_, min}
 use Rattle.load.specs.declared.Load.{Load}
 use Rattle.place.specs.declared.Acknowledgement.{Acknowledgement}
 use Rattle.place.specs.declared.Acknowledgement.the-variants.{Ram, Programming, Verification}
+use Rattle.place.specs.declared.Carries.{Carries}
+use Rattle.place.specs.declared.Carries.the-variants.{Pairs, Bits, Nothing}
 use Rattle.place.specs.declared.Phase.{Phase}
 use Rattle.place.specs.declared.Phase.the-variants.{Calibration, Handshake, Connection, Version, Command, Zeros, Size, Image, Wait, Ended}
+
+-- Calibration, and steps 3, 4, 7 and 8, carry pairs; the others carry bits. An ended session carries nothing.
+abbrev pub carries : Phase → Carries
+carries Calibration = Pairs
+carries Handshake = Bits
+carries Connection = Pairs
+carries (Version v) = Pairs
+carries Command = Bits
+carries Zeros = Bits
+carries Size = Bits
+carries Image = Bits
+carries (Wait a) = Pairs
+carries (Ended e) = Nothing
 
 -- The pairs that a wait has at most.
 abbrev pub pairs : Acknowledgement → ℕ

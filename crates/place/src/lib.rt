@@ -1,8 +1,8 @@
 // Where a session stands, without time: its phases, each with its pulses, and its endings.
 ghost use mathlib.Core.Path.{_≡_};
 ghost use Prim.Native.Nat.{_+_};
-ghost use Rattle.place.specs.Endings.{number};
-ghost use Rattle.place.specs.Phases.{ended, places};
+ghost use Rattle.place.specs.Endings.{endAt, number, toldEnd};
+ghost use Rattle.place.specs.Phases.{carries, ended, places};
 ghost use Rattle.place.specs.Ranges.{before, placeOutside};
 
 mod phases;
@@ -42,6 +42,20 @@ pub enum Phase {
     Ended(Ending),
 }
 
+// What a phase carries: pairs, each the bits 1, 0; the bits of the handshake, of a value or of the image; or nothing, once the session
+// has ended.
+pub enum Carries {
+    Pairs,
+    Bits,
+    Nothing,
+}
+
+// Whether a session goes on, or how it has ended.
+pub enum HostEnd {
+    Going,
+    Ended(Ending),
+}
+
 // The next pulse to send: the phase, and the number of its pulses that were sent.
 pub struct Place {
     pub phase: Phase,
@@ -70,6 +84,41 @@ impl Phase {
         ensures { λ r. ⌜ r ≡ places load self ⌝ }
     {
         phases::places(load, self)
+    }
+
+    pub fn carries(self) -> Carries
+        ensures { λ r. ⌜ r ≡ carries self ⌝ }
+    {
+        match self {
+            Phase::Calibration => Carries::Pairs,
+            Phase::Handshake => Carries::Bits,
+            Phase::Connection => Carries::Pairs,
+            Phase::Version(_) => Carries::Pairs,
+            Phase::Command => Carries::Bits,
+            Phase::Zeros => Carries::Bits,
+            Phase::Size => Carries::Bits,
+            Phase::Image => Carries::Bits,
+            Phase::Wait(_) => Carries::Pairs,
+            Phase::Ended(_) => Carries::Nothing,
+        }
+    }
+
+    // Whether the session goes on, or how it has ended.
+    pub fn end(self) -> HostEnd
+        ensures { λ r. ⌜ toldEnd r ≡ endAt self ⌝ }
+    {
+        match self {
+            Phase::Calibration => HostEnd::Going,
+            Phase::Handshake => HostEnd::Going,
+            Phase::Connection => HostEnd::Going,
+            Phase::Version(_) => HostEnd::Going,
+            Phase::Command => HostEnd::Going,
+            Phase::Zeros => HostEnd::Going,
+            Phase::Size => HostEnd::Going,
+            Phase::Image => HostEnd::Going,
+            Phase::Wait(_) => HostEnd::Going,
+            Phase::Ended(ending) => HostEnd::Ended(ending),
+        }
     }
 }
 

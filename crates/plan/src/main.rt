@@ -2,9 +2,9 @@
 // has no fault, and prints what came of it: the lines of `planned` and the exact seconds, or the number of a refusal.
 use eeprom::Fault;
 use figures::Figure;
-use joined::ChipEnd;
 use joined::Ran;
 use joined::Report;
+use phases::ChipEnd;
 use phases::Ending;
 
 fn main() {

@@ -1,11 +1,11 @@
 // Reads an image from standard input, loads it by command 1 onto a chip whose EEPROM has no fault, and prints what came of it: six lines,
 // or the number of a refusal.
 ghost use mathlib.Core.Path.{_≡_};
-ghost use Rattle.joined.specs.declared.ChipEnd.the-variants.{Listening};
+ghost use Rattle.phases.specs.declared.ChipEnd.the-variants.{Listening};
 use eeprom::Fault;
-use joined::ChipEnd;
 use joined::Ran;
 use joined::Report;
+use phases::ChipEnd;
 use phases::Ending;
 
 // The bench: t and h in ns, the tick p and the chip's loop in ps.

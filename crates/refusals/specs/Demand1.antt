@@ -77,5 +77,5 @@ pub record Demand1 : Type 0 where
       → hostStep x image seen ≡ refused 14
   pub serial-ended : (s : Serial) → serial-reached.Reached s → place.ended (s .place .phase) ≡ true → (image : List ℕ) (back : Wire)
       → serialStep s image back ≡ refused 14
-  pub chip-ended : (c : Chip) → chip-reached.Reached c → phases.ended (c .listener .phase) ≡ true → (ram eeprom : List ℕ) (wait low : ℕ)
+  pub chip-ended : (c : Chip) → chip-reached.Reached c → phases.ended (c .receiver .listener .phase) ≡ true → (ram eeprom : List ℕ) (wait low : ℕ)
       → length ram ≡ 32768 → length eeprom ≡ 32768 → chipStep c ram eeprom wait low .answer ≡ refused 14

@@ -4,6 +4,7 @@ use crate::print::say;
 use load::Load;
 use place::Acknowledgement;
 use place::Ending;
+use place::HostEnd;
 use place::Phase;
 use place::Place;
 use serial::Packing;
@@ -132,9 +133,8 @@ fn told(serial: Serial, image: &[u8], back: Wire) {
         Stepped::Taken(turn) => {
             let sent = turn.sent;
             let next = turn.serial;
-            let place = next.place;
             print_sent(sent);
-            print_place(place);
+            print_place(next);
         }
     }
 }
@@ -146,11 +146,9 @@ fn print_sent(sent: Wire) {
     }
 }
 
-fn print_place(place: Place) {
-    let phase = place.phase;
-    if let Phase::Ended(ending) = phase {
-        number(b", ends ", ending.number() as u64);
-    } else {
-        number(b", at ", place.index as u64);
+fn print_place(serial: Serial) {
+    match serial.end() {
+        HostEnd::Going => number(b", at ", serial.place.index as u64),
+        HostEnd::Ended(ending) => number(b", ends ", ending.number() as u64),
     }
 }

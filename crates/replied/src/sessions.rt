@@ -2,6 +2,7 @@
 use crate::print::number;
 use crate::print::say;
 use place::Acknowledgement;
+use place::HostEnd;
 use place::Phase;
 use place::Place;
 use serial::Packing;
@@ -188,12 +189,9 @@ fn print(end: Progress) {
     number(b" sum ", end.sum as u64);
     number(b" calls ", end.calls as u64);
     let serial = end.serial;
-    let place = serial.place;
-    let phase = place.phase;
-    if let Phase::Ended(ending) = phase {
-        number(b" ends ", ending.number() as u64);
-    } else {
-        say(b" goes on");
+    match serial.end() {
+        HostEnd::Going => say(b" goes on"),
+        HostEnd::Ended(ending) => number(b" ends ", ending.number() as u64),
     }
 }
 

@@ -3,6 +3,8 @@
 -- Assumes nothing.
 use mathlib.Core.Path.{_≡_, refl, sym, _∙_}
 use Rattle.terms.proofs.Answers.{OneAnswer, back, one-told}
+use Rattle.place.specs.Endings.{toldEnd}
+use Rattle.place.proofs.Endings.{backEnd, back-told-end}
 use Rattle.serial.specs.Step.{toldStarted, toldStepped}
 use Rattle.serial.specs.declared.Started.{Started}
 use Rattle.serial.specs.declared.Started.the-variants as started
@@ -10,6 +12,8 @@ use Rattle.serial.specs.declared.Stepped.{Stepped}
 use Rattle.serial.specs.declared.Stepped.the-variants as stepped
 use Rattle.serial.proofs.Serial.awaits_reply.Kinds as awaits-reply-kinds
 use Rattle.serial.proofs.Serial.awaits_reply.Reads as awaits-reply
+use Rattle.serial.proofs.Serial.end.Kinds as end-kinds
+use Rattle.serial.proofs.Serial.end.Reads as end
 use Rattle.serial.proofs.Serial.start.Kinds as start-kinds
 use Rattle.serial.proofs.Serial.start.Reads as start
 use Rattle.serial.proofs.Serial.step.Kinds as step-kinds
@@ -31,3 +35,6 @@ step-one κs a r₁ r₂ e₁ e₂ p q = one-told toldStepped (back stepped.Refu
 
 pub awaits-reply-one : OneAnswer awaits-reply-kinds.ps awaits-reply-kinds.r awaits-reply.Post
 awaits-reply-one κs a r₁ r₂ e₁ e₂ p q = p ∙ sym q
+
+pub end-one : OneAnswer end-kinds.ps end-kinds.r end.Post
+end-one κs a r₁ r₂ e₁ e₂ p q = one-told toldEnd backEnd back-told-end r₁ r₂ p q

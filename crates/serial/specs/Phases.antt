@@ -4,21 +4,20 @@ use mathlib.Core.Bool.{Bool, true, false, not}
 use Prim.Native.Nat.{ℕ}
 use Rattle.terms.specs.Choice.{both}
 use Rattle.bits.specs.Bits.{pairBit}
+use Rattle.place.specs.Phases.{carries}
+use Rattle.place.specs.declared.Carries.{Carries}
+use Rattle.place.specs.declared.Carries.the-variants.{Pairs, Bits, Nothing}
 use Rattle.place.specs.declared.Phase.{Phase}
 use Rattle.place.specs.declared.Phase.the-variants.{Calibration, Handshake, Connection, Version, Command, Zeros, Size, Image, Wait, Ended}
 
--- Calibration, and 01's steps 3, 4, 7 and 8, go in pairs.
+-- The phases that carry pairs.
+abbrev pub arePairs : Carries → Bool
+arePairs Pairs = true
+arePairs Bits = false
+arePairs Nothing = false
+
 abbrev pub inPairs : Phase → Bool
-inPairs Calibration = true
-inPairs Handshake = false
-inPairs Connection = true
-inPairs (Version v) = true
-inPairs Command = false
-inPairs Zeros = false
-inPairs Size = false
-inPairs Image = false
-inPairs (Wait a) = true
-inPairs (Ended e) = false
+inPairs phase = arePairs (carries phase)
 
 -- The pairs of steps 3, 4, 7 and 8 are answered.
 abbrev pub answered : Phase → Bool

@@ -1,5 +1,6 @@
 // The session as serial bytes: a start, and one byte a step.
 ghost use mathlib.Core.Path.{_≡_};
+ghost use Rattle.place.specs.Endings.{endAt, toldEnd};
 ghost use Rattle.serial.specs.Phases.{awaits};
 ghost use Rattle.serial.specs.Step.{serialStart, serialStep, toldStarted, toldStepped, turnOf, turnAt};
 
@@ -10,6 +11,7 @@ mod replies;
 use frames::Frame;
 use load::Accepted;
 use load::Load;
+use place::HostEnd;
 use place::Phase;
 use place::Place;
 
@@ -106,6 +108,15 @@ impl Serial {
         let place = self.place;
         let phase = place.phase;
         replies::awaits(phase, place.index)
+    }
+
+    // Whether the session goes on, or how it has ended.
+    pub fn end(self) -> HostEnd
+        ensures { λ r. ⌜ toldEnd r ≡ endAt (self .place .phase) ⌝ }
+    {
+        let place = self.place;
+        let phase = place.phase;
+        phase.end()
     }
 }
 

@@ -4,6 +4,7 @@ ghost use Rattle.serial.specs.Phases.{answered, inPairs, pending, awaits
 ghost use Rattle.serial.specs.Replies.{came, neither, other, resumed, seenIn, wrongReply};
 use crate::Wire;
 use load::Load;
+use place::Carries;
 use place::Phase;
 use place::Place;
 use units::Seen;
@@ -87,25 +88,18 @@ fn is_other(byte: u8) -> bool
     byte != ONE
 }
 
-// Phases whose bits go in pairs.
+// Whether a phase carries pairs.
 pub(crate) fn in_pairs(phase: Phase) -> bool
     ensures { λ r. ⌜ r ≡ inPairs phase ⌝ }
 {
-    match phase {
-        Phase::Calibration => true,
-        Phase::Handshake => false,
-        Phase::Connection => true,
-        Phase::Version(_) => true,
-        Phase::Command => false,
-        Phase::Zeros => false,
-        Phase::Size => false,
-        Phase::Image => false,
-        Phase::Wait(_) => true,
-        Phase::Ended(_) => false,
+    match phase.carries() {
+        Carries::Pairs => true,
+        Carries::Bits => false,
+        Carries::Nothing => false,
     }
 }
 
-// Those in which a reply to a pair is looked at.
+// Whether a reply to a pair of the phase is looked at.
 fn is_answered(phase: Phase) -> bool
     ensures { λ r. ⌜ r ≡ answered phase ⌝ }
 {

@@ -14,7 +14,9 @@ use Rattle.place.specs.declared.Phase.the-variants as at
 use Rattle.phases.specs.Phases as chip
 use Rattle.phases.specs.declared.Phase.{Phase}
 use Rattle.phases.specs.declared.Phase.the-variants.{First, Second}
-use Rattle.listener.specs.Hears.{hears, settled}
+use Rattle.listener.specs.Settled.{settled}
+use Rattle.receiver.specs.Hears.{hears}
+use Rattle.receiver.specs.declared.Received.{Received}
 use Rattle.line.specs.Reading.{thresholdOf, reads}
 use Rattle.listener.specs.declared.Listener.{Listener}
 use Rattle.conversation.specs.Conversation.{Talk, bitOf, placeAfter, heardOf, passed, Reach, start}
@@ -52,7 +54,7 @@ module _ (measured : Measuring) (image : List ℕ) (load : Load) where
 
   module _ (Low : Bool → ℕ → Type 0) (Clocked : State → Type 0)
       (clock : (s : State) (m : Meets measured image load s) (going : hostEnded s ≡ false)
-      (listens : chip.ended (s .chip .listener .phase) ≡ false) → Clocked s
+      (listens : chip.ended (s .chip .receiver .listener .phase) ≡ false) → Clocked s
       → Clocking measured image load Low Clocked s m going listens)
       (right : (d₁ d₂ x : ℕ) (b : Bool) → Low true d₁ → Low false d₂ → Low b x → reads (thresholdOf d₁ d₂) x ≡ b) where
     -- A pulse of the calibration.
@@ -61,7 +63,7 @@ module _ (measured : Measuring) (image : List ℕ) (load : Load) where
       going : hostEnded s ≡ false
       going = ap (λ (x : Talk). place.ended (x .place .phase)) e ∙ host-open
 
-      listens : chip.ended (s .chip .listener .phase) ≡ false
+      listens : chip.ended (s .chip .receiver .listener .phase) ≡ false
       listens = ap (λ (x : Talk). chip.ended (x .listener .phase)) e ∙ chip-open
 
       abbrev low : ℕ
@@ -73,15 +75,15 @@ module _ (measured : Measuring) (image : List ℕ) (load : Load) where
       low-of : Low (bitOf load image a) low
       low-of = subst (λ (x : Talk). Low (bitOf load image x) low) e (measuring .low)
 
-      hears-low : hears (s .chip .listener) (waitOf measured image load s m going listens) low
-          ≡ heardOf (talkOf s) low (reads (s .chip .listener .threshold .0) low)
+      hears-low : hears (s .chip .receiver) (waitOf measured image load s m going listens) low .heard
+          ≡ heardOf (talkOf s) low (reads (s .chip .receiver .listener .threshold .0) low)
       unfolding hears
-      hears-low = when-false _ _ (measuring .timely)
+      hears-low = ap (λ (x : Received). x .heard) (when-false _ _ (measuring .timely))
 
-      then-at : talkOf (pulsed measured image s) ≡ heardBy a low (reads (s .chip .listener .threshold .0) low)
+      then-at : talkOf (pulsed measured image s) ≡ heardBy a low (reads (s .chip .receiver .listener .threshold .0) low)
       then-at =
           pulsed-passed measured image load s m going listens _ hears-low
-          ∙ ap (λ (x : Talk). heardBy x low (reads (s .chip .listener .threshold .0) low)) e
+          ∙ ap (λ (x : Talk). heardBy x low (reads (s .chip .receiver .listener .threshold .0) low)) e
 
       then-meets : Meets measured image load (pulsed measured image s)
       then-meets = pulsed-meets measured image load s m going listens _ hears-low
@@ -99,7 +101,7 @@ module _ (measured : Measuring) (image : List ℕ) (load : Load) where
       d₁ = low s m c (before ram eeprom) e refl refl
 
       at-second : talkOf s₁ ≡ between d₁ ram eeprom
-      at-second = then-at s m c (before ram eeprom) e refl refl ∙ first-heard ram eeprom d₁ (reads (s .chip .listener .threshold .0) d₁)
+      at-second = then-at s m c (before ram eeprom) e refl refl ∙ first-heard ram eeprom d₁ (reads (s .chip .receiver .listener .threshold .0) d₁)
 
       meets-second : Meets measured image load s₁
       meets-second = then-meets s m c (before ram eeprom) e refl refl
@@ -115,7 +117,7 @@ module _ (measured : Measuring) (image : List ℕ) (load : Load) where
 
       at-start : talkOf s₂ ≡ start (thresholdOf d₁ d₂) ram eeprom
       at-start =
-          then-at s₁ meets-second clocked-second (between d₁ ram eeprom) at-second refl refl ∙ second-heard ram eeprom d₁ d₂ (reads (s₁ .chip .listener .threshold .0) d₂)
+          then-at s₁ meets-second clocked-second (between d₁ ram eeprom) at-second refl refl ∙ second-heard ram eeprom d₁ d₂ (reads (s₁ .chip .receiver .listener .threshold .0) d₂)
 
       ready : Ready measured image load Low Clocked s₂
       ready = record {

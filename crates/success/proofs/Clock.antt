@@ -15,10 +15,11 @@ use Rattle.bits.specs.Bits.{sentBit}
 use Rattle.host.specs.Time.{low, spacer}
 use Rattle.host.proofs.Legs.{low-most, spacer-most}
 use Rattle.phases.specs.Phases as chip
-use Rattle.listener.specs.Late.{late}
+use Rattle.receiver.specs.Late.{late}
 use Rattle.conversation.specs.Conversation.{bitOf}
 use Rattle.session.specs.Step.{pulseOf}
-use Rattle.joined.specs.Joined.{State, Measuring, sees, waited, lasted, pulsed, hostEnded}
+use Rattle.bits.specs.Seeing.{sees}
+use Rattle.joined.specs.Joined.{State, Measuring, waited, lasted, pulsed, hostEnded}
 use Rattle.joined.proofs.Sound.{pulsed-met, shot}
 use Rattle.success.specs.Success.{May, Loop, Margin}
 use Rattle.success.proofs.Simulation.{talkOf, Meets, waitOf, lowOf, Clocking}
@@ -60,7 +61,7 @@ module _ (t h p l : ℕ) (fit : Fit t h p) (loop : Loop l) (margin : Margin t p 
   lasting-low false = omega arith
 
   module _ (image : List ℕ) (load : Load) (s : State) (m : Meets measured image load s) (going : hostEnded s ≡ false)
-      (listens : chip.ended (s .chip .listener .phase) ≡ false) (c : Clocked s) where
+      (listens : chip.ended (s .chip .receiver .listener .phase) ≡ false) (c : Clocked s) where
     -- The bit that is sent, and whether it ends a silent pair.
     abbrev bit : Bool
     bit = sentBit (s .host .session .load) image (s .host .session .place .phase) (s .host .session .place .index)

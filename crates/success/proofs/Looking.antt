@@ -11,7 +11,7 @@ use Rattle.bits.specs.Bits.{pairBit}
 use Rattle.follow.specs.Follow.{afterConnection, afterVersionPair, afterWaitPair, next}
 use Rattle.place.specs.declared.Phase.{Phase}
 use Rattle.place.specs.declared.Phase.the-variants.{Calibration, Handshake, Connection, Version, Command, Zeros, Size, Image, Wait, Ended}
-use Rattle.joined.specs.Joined.{aroundFirst, sees}
+use Rattle.bits.specs.Seeing.{aroundFirst, sees}
 
 unlooked : {A : Type 0} (b : Bool) (x : A) (f : Seen → A) (reply : Seen) → when b x (f (when b Silence reply)) ≡ when b x (f reply)
 unfolding when

@@ -27,7 +27,9 @@ use Rattle.conversation.specs.Final.{AllBytes, ramAfter}
 use Rattle.joined.specs.Ends.{after, Ends}
 use Rattle.conversation.proofs.Longs.{bytes-tested}
 use Rattle.joined.specs.Joined.{State, Measuring, roundedDown, hostEnded, begun}
-use Rattle.joined.specs.Run.{Outcome, Left, budget, chipEnd, outcome, left, finished, fromChip, fromHost, runOf}
+use Rattle.place.specs.Endings as place
+use Rattle.phases.specs.Endings as phases
+use Rattle.joined.specs.Run.{Outcome, Left, budget, outcome, left, finished, fromChip, fromHost, runOf}
 use Rattle.joined.proofs.Budget.{run-ends}
 use Rattle.success.specs.Met.{fresh, AskedOfSample, Answers, Met}
 use Rattle.success.specs.Success.{May, Loop, Margin, Asked, pulses, Succeeds}
@@ -126,8 +128,8 @@ module _ (t h p command : ℕ) (image : List ℕ) (host : Host) (ram eeprom : Li
         ∙ ap (λ (x : List ℕ). left (taken came-to) x (last .eeprom)) (succeeds .ram-left)
         ∙ ap (left (taken came-to) (ramAfter command image ram)) (succeeds .eeprom-left);
     sent = succeeds .counted;
-    host-ends = succeeds .host-ends;
-    chip-ends = ap chipEnd (succeeds .chip-ends);
+    host-ends = ap place.endAt (succeeds .host-ends);
+    chip-ends = ap phases.endAt (succeeds .chip-ends);
   }
 
   not-refused : (n : ℕ) → runOf t h p command image None l ram eeprom .answer ≡ refused n → ⊥

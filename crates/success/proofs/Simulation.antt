@@ -16,8 +16,10 @@ use Rattle.load.specs.declared.Load.{Load}
 use Rattle.follow.specs.Follow.{next}
 use Rattle.place.specs.declared.Place.{Place}
 use Rattle.phases.specs.Phases as chip
-use Rattle.listener.specs.Hears.{hears, settled}
-use Rattle.listener.specs.Late.{late}
+use Rattle.listener.specs.Settled.{settled}
+use Rattle.receiver.specs.Hears.{hears}
+use Rattle.receiver.specs.declared.Received.{Received}
+use Rattle.receiver.specs.Late.{late}
 use Rattle.line.specs.Reading.{reads}
 use Rattle.listener.specs.declared.Heard.{Heard}
 use Rattle.eeprom.specs.declared.Fault.{Fault}
@@ -27,7 +29,8 @@ use Rattle.chip.specs.Step.{pulse}
 use Rattle.conversation.specs.Conversation.{Talk, bitOf, placeAfter, heardOf, passed, talked, Open, Reach, stay, step}
 use Rattle.conversation.proofs.Pulses.{sound-stays}
 use Rattle.joined.specs.Ends.{after, Unrefused}
-use Rattle.joined.specs.Joined.{State, Measuring, sees, waited, lasted, listened, met, pulsed, hostEnded}
+use Rattle.bits.specs.Seeing.{sees}
+use Rattle.joined.specs.Joined.{State, Measuring, waited, lasted, listened, met, pulsed, hostEnded}
 use Rattle.joined.proofs.Budget.{before-all}
 use Rattle.joined.proofs.Sound.{Sound, shot, chip-plays, pulsed-met, pulsed-sound, pulsed-count, unrefused-here}
 use Rattle.success.proofs.Looking.{sees-enough}
@@ -36,7 +39,7 @@ use Rattle.success.proofs.Thresholds.{heard-same, settled-same}
 -- The conversation at a state of the run.
 abbrev pub talkOf : State → Talk
 talkOf s =
-    record { place = s .host .session .place; listener = s .chip .listener; ram = s .ram; eeprom = s .eeprom; reply = s .reply }
+    record { place = s .host .session .place; listener = s .chip .receiver .listener; ram = s .ram; eeprom = s .eeprom; reply = s .reply }
 
 module _ (measured : Measuring) (image : List ℕ) (load : Load) where
   -- What is known of a state, whatever its clock.
@@ -45,7 +48,7 @@ module _ (measured : Measuring) (image : List ℕ) (load : Load) where
     pub loaded : s .host .session .load ≡ load
     pub faultless : s .chip .fault ≡ None
 
-  module _ (s : State) (m : Meets s) (going : hostEnded s ≡ false) (listens : chip.ended (s .chip .listener .phase) ≡ false) where
+  module _ (s : State) (m : Meets s) (going : hostEnded s ≡ false) (listens : chip.ended (s .chip .receiver .listener .phase) ≡ false) where
     -- How the next pulse is measured.
     abbrev pub waitOf : ℕ
     waitOf = waited measured (s .host .session .pulses) (shot measured image s (m .sound) going .fall .0 - s .rise)
@@ -55,26 +58,26 @@ module _ (measured : Measuring) (image : List ℕ) (load : Load) where
         lasted measured (s .host .session .pulses)
         (shot measured image s (m .sound) going .rise .0 - shot measured image s (m .sound) going .fall .0)
 
-    module _ (h : Heard) (e : hears (s .chip .listener) waitOf lowOf ≡ h) where
+    module _ (h : Heard) (e : hears (s .chip .receiver) waitOf lowOf .heard ≡ h) where
       abbrev after-it : State
-      after-it = met (s .chip) (shot measured image s (m .sound) going) (pulse (s .chip) (s .ram) (s .eeprom) h)
+      after-it =
+          met (s .chip) (shot measured image s (m .sound) going)
+          (pulse (s .chip) (s .ram) (s .eeprom) (hears (s .chip .receiver) waitOf lowOf))
 
       pulsed-so : pulsed measured image s ≡ after-it
       unfolding listened
       pulsed-so =
           pulsed-met measured image s (m .sound) going
           ∙ ap (met (s .chip) (shot measured image s (m .sound) going))
-          (when-false _ _ listens
-          ∙ sym (chip-plays measured image s (m .sound) going listens waitOf lowOf)
-          ∙ ap (pulse (s .chip) (s .ram) (s .eeprom)) e)
+          (when-false _ _ listens ∙ sym (chip-plays measured image s (m .sound) going listens waitOf lowOf))
 
       -- The state after it, as the conversation has it.
-      abbrev shaped : Place → Fault → Seen → Talk
-      shaped place fault reply = record {
+      abbrev shaped : Heard → Place → Fault → Seen → Talk
+      shaped x place fault reply = record {
         place = place;
-        listener = settled h (done fault (h .event) (s .ram) (s .eeprom) .done .good);
-        ram = done fault (h .event) (s .ram) (s .eeprom) .ram;
-        eeprom = done fault (h .event) (s .ram) (s .eeprom) .eeprom;
+        listener = settled x (done fault (x .event) (s .ram) (s .eeprom) .done .good);
+        ram = done fault (x .event) (s .ram) (s .eeprom) .ram;
+        eeprom = done fault (x .event) (s .ram) (s .eeprom) .eeprom;
         reply = reply;
       }
 
@@ -84,9 +87,10 @@ module _ (measured : Measuring) (image : List ℕ) (load : Load) where
           let i = s .host .session .place .index in
           let place = ap (λ (x : Load). next x phase i (sees phase i (s .reply))) (m .loaded) ∙ sees-enough load phase i (s .reply) in
           ap talkOf pulsed-so
-          ∙ ap (λ (x : Place). shaped x (s .chip .fault) (seen (told (h .reply)))) place
-          ∙ ap (λ (x : Fault). shaped (placeAfter load (talkOf s)) x (seen (told (h .reply)))) (m .faultless)
-          ∙ ap (shaped (placeAfter load (talkOf s)) None) (seen-told (h .reply))
+          ∙ ap (λ (x : Heard). shaped x (next (s .host .session .load) phase i (sees phase i (s .reply))) (s .chip .fault) (seen (told (x .reply)))) e
+          ∙ ap (λ (x : Place). shaped h x (s .chip .fault) (seen (told (h .reply)))) place
+          ∙ ap (λ (x : Fault). shaped h (placeAfter load (talkOf s)) x (seen (told (h .reply)))) (m .faultless)
+          ∙ ap (shaped h (placeAfter load (talkOf s)) None) (seen-told (h .reply))
 
       pub pulsed-meets : Meets (pulsed measured image s)
       pulsed-meets = record {
@@ -94,6 +98,7 @@ module _ (measured : Measuring) (image : List ℕ) (load : Load) where
         loaded = ap (λ (x : State). x .host .session .load) pulsed-so ∙ m .loaded;
         faultless =
             ap (λ (x : State). x .chip .fault) pulsed-so
+            ∙ ap (λ (x : Heard). done (s .chip .fault) (x .event) (s .ram) (s .eeprom) .done .fault) e
             ∙ ap (λ (x : Fault). done x (h .event) (s .ram) (s .eeprom) .done .fault) (m .faultless)
             ∙ sound-stays (h .event) (s .ram) (s .eeprom);
       }
@@ -101,19 +106,19 @@ module _ (measured : Measuring) (image : List ℕ) (load : Load) where
   -- What a bit may measure as, and what is known of the clock.
   module _ (Low : Bool → ℕ → Type 0) (Clocked : State → Type 0) where
     -- The next pulse is measured well, and the clock goes on.
-    pub record Clocking (s : State) (m : Meets s) (going : hostEnded s ≡ false) (listens : chip.ended (s .chip .listener .phase) ≡ false)
+    pub record Clocking (s : State) (m : Meets s) (going : hostEnded s ≡ false) (listens : chip.ended (s .chip .receiver .listener .phase) ≡ false)
         : Type 0 where
-      pub timely : late (s .chip .listener) (waitOf s m going listens) (lowOf s m going listens) ≡ false
+      pub timely : late (s .chip .receiver .listener) (waitOf s m going listens) (lowOf s m going listens) ≡ false
       pub low : Low (bitOf load image (talkOf s)) (lowOf s m going listens)
       pub next : Clocked (pulsed measured image s)
 
     -- A calibrated chip, whose threshold tells a 1 from a 0.
     pub record Ready (s : State) : Type 0 where
       pub meets : Meets s
-      pub tells : (b : Bool) (x : ℕ) → Low b x → reads (s .chip .listener .threshold .0) x ≡ b
+      pub tells : (b : Bool) (x : ℕ) → Low b x → reads (s .chip .receiver .listener .threshold .0) x ≡ b
       pub clocked : Clocked s
 
-    module _ (clock : (s : State) (m : Meets s) (going : hostEnded s ≡ false) (listens : chip.ended (s .chip .listener .phase) ≡ false)
+    module _ (clock : (s : State) (m : Meets s) (going : hostEnded s ≡ false) (listens : chip.ended (s .chip .receiver .listener .phase) ≡ false)
         → Clocked s → Clocking s m going listens) where
       module _ (s : State) (r : Ready s) (o : Open (talkOf s)) where
         abbrev bit : Bool
@@ -122,11 +127,11 @@ module _ (measured : Measuring) (image : List ℕ) (load : Load) where
         abbrev measuring : Clocking s (r .meets) (o .host) (o .chip)
         measuring = clock s (r .meets) (o .host) (o .chip) (r .clocked)
 
-        hears-bit : hears (s .chip .listener) (waitOf s (r .meets) (o .host) (o .chip)) (lowOf s (r .meets) (o .host) (o .chip))
+        hears-bit : hears (s .chip .receiver) (waitOf s (r .meets) (o .host) (o .chip)) (lowOf s (r .meets) (o .host) (o .chip)) .heard
             ≡ heardOf (talkOf s) 0 bit
         unfolding hears
         hears-bit =
-            when-false _ _ (measuring .timely)
+            ap (λ (x : Received). x .heard) (when-false _ _ (measuring .timely))
             ∙ ap (heardOf (talkOf s) (lowOf s (r .meets) (o .host) (o .chip))) (r .tells bit _ (measuring .low))
             ∙ o .calibrated _ bit
 
@@ -134,12 +139,12 @@ module _ (measured : Measuring) (image : List ℕ) (load : Load) where
         unfolding talked
         talks-on = pulsed-passed s (r .meets) (o .host) (o .chip) (heardOf (talkOf s) 0 bit) hears-bit
 
-        same-threshold : pulsed measured image s .chip .listener .threshold ≡ s .chip .listener .threshold
+        same-threshold : pulsed measured image s .chip .receiver .listener .threshold ≡ s .chip .receiver .listener .threshold
         unfolding talked
         same-threshold =
             ap (λ (a : Talk). a .listener .threshold) talks-on
             ∙ settled-same (heardOf (talkOf s) 0 bit) _
-            ∙ heard-same (s .chip .listener) 0 bit (s .chip .listener .phase) (o .calibrated)
+            ∙ heard-same (s .chip .receiver .listener) 0 bit (s .chip .receiver .listener .phase) (o .calibrated)
 
         pub ready-on : Ready (pulsed measured image s)
         ready-on = record {
@@ -151,7 +156,7 @@ module _ (measured : Measuring) (image : List ℕ) (load : Load) where
       -- So many pulses of the run, neither side ending before the last.
       pub record Runs (n : ℕ) (s : State) (b : Talk) : Type 0 where
         pub host-goes : (k : ℕ) → k < n → hostEnded (after measured image k s) ≡ false
-        pub chip-goes : (k : ℕ) → k < n → chip.ended (after measured image k s .chip .listener .phase) ≡ false
+        pub chip-goes : (k : ℕ) → k < n → chip.ended (after measured image k s .chip .receiver .listener .phase) ≡ false
         pub unrefused : (k : ℕ) → k < n → Unrefused measured image (after measured image k s)
         pub ends : talkOf (after measured image n s) ≡ b
         pub counted : after measured image n s .host .session .pulses ≡ s .host .session .pulses + n
@@ -171,11 +176,11 @@ module _ (measured : Measuring) (image : List ℕ) (load : Load) where
       after-one n s = ap (λ (k : ℕ). after measured image k s) (add-one n)
 
       -- One pulse that both sides take, and the rest.
-      pub runs-more : (n : ℕ) (s : State) (b : Talk) → Sound image s → hostEnded s ≡ false → chip.ended (s .chip .listener .phase) ≡ false
+      pub runs-more : (n : ℕ) (s : State) (b : Talk) → Sound image s → hostEnded s ≡ false → chip.ended (s .chip .receiver .listener .phase) ≡ false
           → Runs n (pulsed measured image s) b → Runs (n + 1) s b
       runs-more n s b k going listens rest = record {
         host-goes = before-all measured image s n (λ (x : State). hostEnded x ≡ false) going (rest .host-goes);
-        chip-goes = before-all measured image s n (λ (x : State). chip.ended (x .chip .listener .phase) ≡ false) listens (rest .chip-goes);
+        chip-goes = before-all measured image s n (λ (x : State). chip.ended (x .chip .receiver .listener .phase) ≡ false) listens (rest .chip-goes);
         unrefused = before-all measured image s n (Unrefused measured image) (unrefused-here measured image s k going) (rest .unrefused);
         ends = ap talkOf (after-one n s) ∙ rest .ends;
         counted =

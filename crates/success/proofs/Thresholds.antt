@@ -14,7 +14,7 @@ use Rattle.phases.specs.declared.Reply.{Reply}
 use Rattle.phases.specs.declared.Reply.the-variants.{Connection, Acknowledging}
 use Rattle.listener.specs.Heard.{heard, compared, stored, verified, acknowledged, replied, receivedCommand, receivedSize, receivedLong}
 use Rattle.listener.specs.Heard.{readCommand, readSize, readLong, aligned}
-use Rattle.listener.specs.Hears.{failed, settled}
+use Rattle.listener.specs.Settled.{failed, settled}
 use Rattle.listener.specs.declared.Event.{Event}
 use Rattle.listener.specs.declared.Event.the-variants.{Nothing, Store, Finish, Program, Verify, Launch, Boot}
 use Rattle.listener.specs.declared.Heard.{Heard}

@@ -7,18 +7,17 @@ use lib.ListN.{length, replicate}
 use Rattle.terms.specs.Refusals.{refused, taken}
 use Rattle.load.specs.Load.{loadOf}
 use Rattle.session.specs.Step as session
-use Rattle.place.specs.declared.Ending.the-variants.{Done}
-use Rattle.place.specs.declared.Phase.the-variants as place
+use Rattle.place.specs.Endings.{ended}
 use Rattle.host.specs.Step as host
 use Rattle.host.specs.declared.Host.{Host}
 use Rattle.eeprom.specs.declared.Fault.the-variants.{None}
+use Rattle.phases.specs.Endings.{name}
 use Rattle.chip.specs.Step as chip
 use Rattle.chip.specs.declared.Chip.{Chip}
 use Rattle.checks.specs.Sample.{sample}
 use Rattle.conversation.specs.Final.{AllBytes, ramAfter, eepromAfter, chipEnding}
 use Rattle.joined.specs.Joined.{roundedDown}
 use Rattle.joined.specs.Run.{Outcome, left, runOf}
-use Rattle.joined.specs.declared.ChipEnd.the-variants as chip-end
 use Rattle.success.specs.Success.{May, Loop, Margin, Asked, pulses}
 
 -- A host before its first pulse, and memories of zeros.
@@ -37,8 +36,8 @@ AskedOfSample t p command =
 pub record Answers (t h p command : ℕ) (image : List ℕ) (l : ℕ) (ram eeprom : List ℕ) (o : Outcome) : Type 0 where
   pub ran : runOf t h p command image None l ram eeprom ≡ left (taken o) (ramAfter command image ram) (eepromAfter command image eeprom)
   pub sent : o .pulses ≡ pulses command (length image)
-  pub host-ends : o .host ≡ place.Ended Done
-  pub chip-ends : o .chip ≡ chip-end.Ended (chipEnding command)
+  pub host-ends : o .host ≡ ended 0
+  pub chip-ends : o .chip ≡ name (chipEnding command)
 
 pub record Met : Type 0 where
   -- Rounding down is one way that each count may be measured.

@@ -62,10 +62,10 @@ module _ (command : ℕ) (image : List ℕ) (measured : Measuring) (s : State) w
   -- and both memories are left as 01 has it.
   pub record Succeeds : Type 0 where
     pub host-goes : (n : ℕ) → n < pulses command (length image) → hostEnded (at n) ≡ false
-    pub chip-goes : (n : ℕ) → n < pulses command (length image) → ended (at n .chip .listener .phase) ≡ false
+    pub chip-goes : (n : ℕ) → n < pulses command (length image) → ended (at n .chip .receiver .listener .phase) ≡ false
     pub unrefused : (n : ℕ) → n < pulses command (length image) → Unrefused measured image (at n)
     pub host-ends : last .host .session .place .phase ≡ place.Ended ending.Done
-    pub chip-ends : last .chip .listener .phase ≡ chip.Ended (chipEnding command)
+    pub chip-ends : last .chip .receiver .listener .phase ≡ chip.Ended (chipEnding command)
     pub ram-left : last .ram ≡ ramAfter command image (s .ram)
     pub eeprom-left : last .eeprom ≡ eepromAfter command image (s .eeprom)
     pub counted : last .host .session .pulses ≡ pulses command (length image)

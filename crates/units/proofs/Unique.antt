@@ -6,6 +6,8 @@ use Rattle.units.proofs.Bytes.to_longs.Kinds as to-longs-kinds
 use Rattle.units.proofs.Bytes.to_longs.Reads as to-longs
 use Rattle.units.proofs.Longs.to_bytes.Kinds as to-bytes-kinds
 use Rattle.units.proofs.Longs.to_bytes.Reads as to-bytes
+use Rattle.units.proofs.Longs.to_end.Kinds as to-end-kinds
+use Rattle.units.proofs.Longs.to_end.Reads as to-end
 use Rattle.units.proofs.Ticks.to_loops.Kinds as to-loops-kinds
 use Rattle.units.proofs.Ticks.to_loops.Reads as to-loops
 
@@ -14,6 +16,9 @@ to-longs-one κs a r₁ r₂ e₁ e₂ p q = λ i. record { 0 = (p ∙ sym q) i 
 
 pub to-bytes-one : OneAnswer to-bytes-kinds.ps to-bytes-kinds.r to-bytes.Post
 to-bytes-one κs a r₁ r₂ e₁ e₂ p q = λ i. record { 0 = (p ∙ sym q) i }
+
+pub to-end-one : OneAnswer to-end-kinds.ps to-end-kinds.r to-end.Post
+to-end-one κs a r₁ r₂ e₁ e₂ p q = λ i. record { 0 = (p ∙ sym q) i }
 
 pub to-loops-one : OneAnswer to-loops-kinds.ps to-loops-kinds.r to-loops.Post
 to-loops-one κs a r₁ r₂ e₁ e₂ p q = λ i. record { 0 = (p ∙ sym q) i }

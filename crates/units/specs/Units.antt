@@ -1,6 +1,6 @@
 -- 01, "Bench figures": bench ticks, chip loops, bytes and longs, and what one of them is in another.
 -- Assumes nothing.
-use Prim.Native.Nat.{ℕ, _*_, _/_, min}
+use Prim.Native.Nat.{ℕ, _+_, _*_, _/_, min}
 use lib.Dec.{eqb}
 use Rattle.terms.specs.Choice.{when}
 
@@ -15,6 +15,10 @@ longsIn bytes = min (bytes / 4) most
 -- The bytes in some longs.
 abbrev pub bytesIn : ℕ → ℕ
 bytesIn longs = longs * 4
+
+-- The bytes up to the end of long k, the first being long 0.
+abbrev pub endOf : ℕ → ℕ
+endOf k = bytesIn k + 4
 
 -- The loops of l ps in some ticks of p ps, rounded down. In loops of no length there is no last one, and the count is the largest.
 unfoldable pub loopsIn : ℕ → ℕ → ℕ → ℕ

@@ -2,7 +2,7 @@
 // another by the conversions here and in no other way.
 ghost use mathlib.Core.Path.{_≡_};
 ghost use Prim.Native.Nat.{min};
-ghost use Rattle.units.specs.Units.{most, longsIn, bytesIn, loopsIn};
+ghost use Rattle.units.specs.Units.{most, longsIn, bytesIn, endOf, loopsIn};
 
 // Ticks of the bench's clock.
 pub struct Ticks(pub u64);
@@ -45,6 +45,13 @@ impl Longs {
         ensures { λ r. ⌜ r .0 ≡ bytesIn (self .0) ⌝ }
     {
         Bytes(self.0 as usize * 4)
+    }
+
+    // Where the long of this number ends, the first being number 0.
+    pub fn to_end(self) -> Bytes
+        ensures { λ r. ⌜ r .0 ≡ endOf (self .0) ⌝ }
+    {
+        Bytes(self.0 as usize * 4 + 4)
     }
 }
 

@@ -1,48 +1,28 @@
 // The parts of a line.
-use eeprom::Fault;
-use joined::ChipEnd;
+use chip::Chip;
+use host::Host;
 use joined::Ran;
 use joined::Report;
+use phases::ChipEnd;
 use phases::Ending;
-use units::Seen;
+use place::HostEnd;
 
 pub(crate) fn say(words: &[u8]) {
     io::write_all(1, words);
 }
 
-pub(crate) fn number(word: &[u8], n: u32) {
-    long(word, n as u64);
+pub(crate) fn heading(line: &[u8]) {
+    say(line);
+    say(b"\n");
 }
 
-fn long(word: &[u8], n: u64) {
-    say(word);
+pub(crate) fn number(words: &[u8], n: u64) {
+    say(words);
     io::print_decimal(1, n);
 }
 
-// The command and the EEPROM's fault.
-pub(crate) fn case(command: u32, fault: Fault) {
-    number(b"command ", command);
-    match fault {
-        Fault::None => return,
-        Fault::Accepts(pages) => number(b" accepts ", pages),
-        Fault::Reads(value, at) => {
-            number(b" reads ", value as u32);
-            long(b" at ", at.0 as u64);
-        }
-    }
-}
-
-// What the host sees around a pulse.
-pub(crate) fn seen(seen: Seen) {
-    match seen {
-        Seen::Silence => say(b" seen silent"),
-        Seen::Zero => say(b" seen 0"),
-        Seen::One => say(b" seen 1"),
-    }
-}
-
 pub(crate) fn refused(n: u8) {
-    number(b": refused ", n as u32);
+    number(b": refused ", n as u64);
 }
 
 pub(crate) fn ran(ran: Ran) {
@@ -53,25 +33,31 @@ pub(crate) fn ran(ran: Ran) {
 }
 
 fn finished(report: Report) {
-    pulses(report.pulses);
-    number(b" ones ", report.ones);
-    number(b" zeros ", report.zeros);
-    long(b" ticks ", report.ticks.0);
+    number(b": pulses ", report.pulses as u64);
+    number(b" ones ", report.ones as u64);
+    number(b" zeros ", report.zeros as u64);
+    number(b" ticks ", report.ticks.0);
     let end = report.host;
-    host(end);
+    print_host(end);
     let end = report.chip;
-    chip(end);
+    print_chip(end);
 }
 
-pub(crate) fn pulses(n: u32) {
-    number(b": pulses ", n);
+fn print_host(end: place::Ending) {
+    number(b" host ", end.number() as u64);
 }
 
-pub(crate) fn host(end: place::Ending) {
-    number(b" host ", end.number() as u32);
+// Host and chip where their pulses stopped.
+pub(crate) fn stopped(host: Host, chip: Chip) {
+    number(b": pulses ", host.session.pulses as u64);
+    let end = host.end();
+    if let HostEnd::Ended(ending) = end {
+        print_host(ending);
+    }
+    print_chip(chip.end());
 }
 
-pub(crate) fn chip(end: ChipEnd) {
+fn print_chip(end: ChipEnd) {
     match end {
         ChipEnd::Listening => say(b" chip listening"),
         ChipEnd::Ended(ending) => ended(ending),
@@ -89,7 +75,7 @@ fn ended(ending: Ending) {
 
 // The plain sums of both memories.
 pub(crate) fn sums(ram: &[u8], eeprom: &[u8]) {
-    long(b" ram ", lent::total(ram));
-    long(b" eeprom ", lent::total(eeprom));
+    number(b" ram ", lent::total(ram));
+    number(b" eeprom ", lent::total(eeprom));
     say(b"\n");
 }

@@ -50,22 +50,6 @@ pub(crate) const S: [u8; 44] = [
     0x00,
 ];
 
-// The bench: t and h in ns, the tick p and the chip's loop in ps.
-pub(crate) const T: u32 = 8_600;
-
-pub(crate) const H: u32 = 8_600;
-
-pub(crate) const P: u32 = 700_000;
-
-pub(crate) const L: u32 = 400_000;
-
-// The RAM before a load: each byte is 1.
-pub(crate) fn ram() -> [u8; 32_768]
-    ensures { λ r. ⌜ 32768 ≡ length r ⌝ }
-{
-    [1u8; 32_768]
-}
-
 // The EEPROM before a load: S from byte 0, and 2 in each byte after it, so that a page of it is told from a page of a loaded RAM.
 pub(crate) fn eeprom() -> [u8; 32_768]
     ensures { λ r. ⌜ 32768 ≡ length r ⌝ }

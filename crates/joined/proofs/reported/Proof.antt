@@ -1,33 +1,40 @@
--- `reported` takes each figure from its record.
+-- `reported` takes each figure from its record, and each ending from its side.
 -- Assumes nothing.
 use mathlib.Core.Path.{ap, _∙_}
-use Rattle.place.specs.declared.Phase.{Phase}
+use Rattle.place.specs.Endings as host
+use Rattle.place.proofs.Endings.{not-going}
+use Rattle.phases.specs.Endings as chip
 use Rattle.joined.specs.Run.{Outcome}
-use Rattle.joined.specs.declared.ChipEnd.{ChipEnd}
 use borrow.Author.Needs.{needs}
 use Rattle.joined.proofs.reported.Statement.{statement}
 use Rattle.joined.proofs.reported.Tie as tie
 
-ending-requires : tie.Need-ending-requires
-ending-requires c κs = search needs
+end-requires : tie.Need-end-requires
+end-requires c κs = search needs
 
-chip-end-requires : tie.Need-chip-end-requires
-chip-end-requires c κs = search needs
+ending-requires : tie.Need-ending-requires
+ending-requires c κs =
+    let start = c .before .before .before .before .before in
+    not-going (c .end .result) (start .args .end .host .session .place .phase) (c .end .ensures) (start .pre)
+
+end-requires-2 : tie.Need-end-requires-2
+end-requires-2 c κs = search needs
 
 returns : tie.Need-returns
 returns c =
     let a = c .before .before .before .before .before .before .before .args .end in
-    let with : Phase → ChipEnd → Outcome = λ host chip. record {
+    let with : host.End → chip.End → Outcome = λ h e. record {
       pulses = a .host .session .pulses;
       ones = a .host .session .ones;
       zeros = a .host .session .zeros;
       ticks = a .rise .0;
       risen = a .risen;
-      host = host;
-      chip = chip;
+      host = h;
+      chip = e;
     } in
-    ap (λ (x : Phase). with x (c .chip-end .result)) (c .before .ending .ensures)
-    ∙ ap (with (a .host .session .place .phase)) (c .chip-end .ensures)
+    let ended = ap host.toldEnd (c .before .ending .ensures) ∙ c .before .before .end .ensures in
+    ap (λ (h : host.End). with h (chip.toldEnd (c .end2 .result))) ended
+    ∙ ap (with (host.endAt (a .host .session .place .phase))) (c .end2 .ensures)
 
 pub reported-spec : {M : Type 1} → statement M
-reported-spec = tie.close (tie.spec ending-requires chip-end-requires returns)
+reported-spec = tie.close (tie.spec end-requires ending-requires end-requires-2 returns)

@@ -11,8 +11,8 @@ to-bytes-requires c κs = search needs
 store-requires : tie.Need-store-requires
 store-requires c κs = search needs
 
-add-t12 : tie.Need-add-t12
-add-t12 c = search needs
+to-end-requires : tie.Need-to-end-requires
+to-end-requires c κs = search needs
 
 finish-requires : tie.Need-finish-requires
 finish-requires c κs = search needs
@@ -23,10 +23,13 @@ same-length c = search needs
 returns : tie.Need-returns
 returns c =
     let finish = c .before .before .finish .ensures in
-    let stored = c .before .before .before .before .before .before .before in
-    (rw (finish .1, finish .0) refl, rw (finish .0, stored .store .ensures, stored .before .before .to-bytes .ensures) refl)
+    let end = c .before .before .before .to-end .ensures in
+    let stored = c .before .before .before .before .before .before .before in (
+      rw (finish .1, finish .0) refl,
+      rw (finish .0, end, stored .store .ensures, stored .before .to-bytes .ensures) refl,
+    )
 
 pub finished-spec : {M : Type 1} → statement M
 finished-spec =
     tie.close
-    (tie.spec to-bytes-requires store-requires add-t12 finish-requires same-length returns)
+    (tie.spec to-bytes-requires store-requires to-end-requires finish-requires same-length returns)

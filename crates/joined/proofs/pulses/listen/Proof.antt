@@ -1,7 +1,7 @@
 -- `pulses::listen` plays the pulse to a chip that has not ended.
 -- Assumes nothing.
 use mathlib.Core.Path.{_≡_}
-use Rattle.terms.proofs.Refusals.{answered}
+use Rattle.phases.proofs.Endings.{listens, has-ended}
 use Rattle.chip.specs.Step.{left, toldStepped}
 use Rattle.joined.specs.Joined.{roundedDown, listened}
 use Rattle.joined.specs.Run.{state}
@@ -10,14 +10,20 @@ use borrow.Author.Needs.{needs}
 use Rattle.joined.proofs.pulses.listen.Statement.{statement}
 use Rattle.joined.proofs.pulses.listen.Tie as tie
 
-is-deaf-requires : tie.Need-is-deaf-requires
-is-deaf-requires c κs = search needs
+end-requires : tie.Need-end-requires
+end-requires c κs = search needs
+
+enum-told : tie.Need-enum-told
+enum-told c = search needs
 
 met-requires : tie.Need-met-requires
 met-requires c κs = search needs
 
 returns : tie.Need-returns
-returns c = search (listened-ended, answered)
+returns c = search (listened-ended, has-ended)
+
+enum-told-2 : tie.Need-enum-told-2
+enum-told-2 c = search needs
 
 waited-requires : tie.Need-waited-requires
 waited-requires c κs = search needs
@@ -31,8 +37,8 @@ to-loops-requires c κs = search needs
 step-requires : tie.Need-step-requires
 step-requires c κs = search needs
 
-enum-told : tie.Need-enum-told
-enum-told c = search needs
+enum-told-3 : tie.Need-enum-told-3
+enum-told-3 c = search needs
 
 met-requires-2 : tie.Need-met-requires-2
 met-requires-2 c κs = search needs
@@ -45,13 +51,13 @@ answered-requires c κs = search needs
 
 -- Once the chip has answered: what its step left is what the pulse leaves.
 abbrev start : tie.After-step → tie.Start
-start c = c .before .before .before .before .before .before .before .before .before .before .before .before .before .before
+start c = c .before .before .before .before .before .before .before .before .before .before .before .before .before .before .before
 
 left-so : (c : tie.After-step)
     → left (toldStepped (c .step .result)) (c .step .last .1 .0) (c .step .last .1 .1 .0)
     ≡ listened (roundedDown (start c .args .p) (start c .args .l))
     (state (start c .args .joined) (start c .args .ram .now) (start c .args .eeprom .now)) (start c .args .sent)
-left-so c = search (stepped-so, answered)
+left-so c = search (stepped-so, listens)
 
 same-length : tie.Need-same-length
 same-length c = search needs
@@ -75,14 +81,16 @@ pub listen-spec : {M : Type 1} → statement M
 listen-spec =
     tie.close
     (tie.spec
-    is-deaf-requires
+    end-requires
+    enum-told
     met-requires
     returns
+    enum-told-2
     waited-requires
     between-requires
     to-loops-requires
     step-requires
-    enum-told
+    enum-told-3
     met-requires-2
     enum-known-played
     answered-requires

@@ -4,7 +4,7 @@ use mathlib.Core.Path.{_≡_, refl, _∙_}
 use native.Mathlib.Omega.{arith}
 use lib.ListN.{length}
 use borrow.Author.Needs.{needs}
-use Rattle.terms.proofs.Refusals.{answered}
+use Rattle.place.proofs.Endings.{goes-on, has-ended}
 use Rattle.joined.specs.Joined.{roundedDown, played}
 use Rattle.joined.specs.Run.{budget, state}
 use Rattle.joined.proofs.Turns.{left-after, left-none, left-ended}
@@ -23,17 +23,23 @@ abbrev μ-loop : tie.MeasureT-loop
 loop-holds : tie.Need-loop-holds Inv-loop μ-loop
 loop-holds c = (refl, refl, refl)
 
-has-ended-requires : tie.Need-has-ended-requires Inv-loop μ-loop
-has-ended-requires c κs = search needs
+end-requires : tie.Need-end-requires Inv-loop μ-loop
+end-requires c κs = search needs
+
+enum-told : tie.Need-enum-told Inv-loop μ-loop
+enum-told c = search needs
 
 same-length : tie.Need-same-length Inv-loop μ-loop
-same-length c = c .before .before .before .before .loop .inv .1
+same-length c = c .before .before .before .before .before .loop .inv .1
 
 same-length-2 : tie.Need-same-length-2 Inv-loop μ-loop
-same-length-2 c = c .before .before .before .before .loop .inv .2
+same-length-2 c = c .before .before .before .before .before .loop .inv .2
 
 returns : tie.Need-returns Inv-loop μ-loop
-returns c = search (left-ended, answered)
+returns c = search (left-ended, has-ended)
+
+enum-told-2 : tie.Need-enum-told-2 Inv-loop μ-loop
+enum-told-2 c = search needs
 
 pulse-requires : tie.Need-pulse-requires Inv-loop μ-loop
 pulse-requires c κs = search needs
@@ -48,10 +54,11 @@ loop-again : tie.Need-loop-again Inv-loop μ-loop
 loop-again c =
     let pulse = c .before .before .before .before .pulse in
     let goes = c .before .before .before .before .before .before .before in
-    let ended = goes .before .has-ended .ensures in
-    let some = goes .before .before .before .loop-test .taken in
-    let loop = goes .before .before .before .before .loop in (
-      search (left-after, answered, goes .if1 .left, ended, some, loop .inv .0),
+    let end = goes .before .before .end in
+    let some = goes .before .before .before .before .loop-test .taken in
+    let loop = goes .before .before .before .before .before .loop in
+    let going = goes-on (end .result) (loop .joined .host .session .place .phase) (end .ensures) (goes .enum-told2 .given .1) in (
+      search (left-after, going, some, loop .inv .0),
       pulse .kept .1 .1 .1 .1 .0 ∙ loop .inv .1,
       pulse .kept .1 .1 .1 .1 .1 .0 ∙ loop .inv .2,
     )
@@ -72,10 +79,12 @@ play-spec =
     Inv-loop
     μ-loop
     loop-holds
-    has-ended-requires
+    end-requires
+    enum-told
     same-length
     same-length-2
     returns
+    enum-told-2
     pulse-requires
     sub-left
     loop-less

@@ -1,7 +1,7 @@
 -- `Heard::settled`, by whether the work went well.
 -- Assumes nothing.
 use Rattle.terms.proofs.Refusals.{walk}
-use Rattle.listener.specs.Hears.{settled}
+use Rattle.listener.specs.Settled.{settled}
 use borrow.Author.Needs.{needs}
 use Rattle.listener.proofs.Heard.settled.Statement.{statement}
 use Rattle.listener.proofs.Heard.settled.Tie as tie

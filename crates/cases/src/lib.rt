@@ -1,0 +1,125 @@
+// Cases as lines of text: a line names what its case changes, each name with its number behind it.
+ghost use mathlib.Core.Path.{_≡_};
+ghost use Prim.Native.Nat.{_≤_};
+ghost use lib.ListN.{drop};
+ghost use Rattle.cases.specs.Cases.{lineEnd, begin, has, behind, startsWithDigit, grown, valueFrom, number};
+use units::Bytes;
+
+// Where the line ends that a place stands in: at the next newline, or with the text. A place past the text's end is its own line's end.
+pub fn line_end(text: &[u8], from: Bytes) -> Bytes
+    ensures { λ r. ⌜ r .0 ≡ lineEnd (now (text .entry)) (from .0) ⌝ }
+{
+    let mut at = from.0;
+    while at < text.len() {
+        if text[at] == b'\n' {
+            return Bytes(at);
+        }
+        at += 1;
+    }
+    Bytes(at)
+}
+
+// Whether the words stand in a line, at its start or right behind a space.
+pub fn has(line: &[u8], words: &[u8]) -> bool
+    ensures { λ r. ⌜ r ≡ has (now (line .entry)) (now (words .entry)) ⌝ }
+{
+    let mut fresh = true;
+    let mut at = 0;
+    while at < line.len() {
+        if begin(line, at, words, fresh) {
+            return true;
+        }
+        fresh = line[at] == b' ';
+        at += 1;
+    }
+    false
+}
+
+// The number behind the words, where they stand so for the first time with a digit behind them; `otherwise` where they do not. One
+// that does not fit 64 bits is the largest that does.
+pub fn number(line: &[u8], words: &[u8], otherwise: u64) -> u64
+    ensures { λ r. ⌜ r ≡ number (now (line .entry)) (now (words .entry)) otherwise ⌝ }
+{
+    let mut fresh = true;
+    let mut at = 0;
+    while at < line.len() {
+        let behind = behind(line, at, words, fresh);
+        if digit_at(line, behind) {
+            return value(line, behind);
+        }
+        fresh = line[at] == b' ';
+        at += 1;
+    }
+    otherwise
+}
+
+// The place right behind the words, where they begin at a place; otherwise the line's end.
+fn behind(line: &[u8], at: usize, words: &[u8], fresh: bool) -> usize
+    ensures { λ r. ⌜ drop r (now (line .entry)) ≡ behind fresh (drop at (now (line .entry))) (now (words .entry)) ⌝ }
+{
+    if !begin(line, at, words, fresh) {
+        return line.len();
+    }
+    at + words.len()
+}
+
+// Whether the words begin at a place, which must be fresh.
+fn begin(line: &[u8], at: usize, words: &[u8], fresh: bool) -> bool
+    ensures { λ r. ⌜ r ≡ begin fresh (drop at (now (line .entry))) (now (words .entry)) ⌝ }
+{
+    if !fresh {
+        return false;
+    }
+    let mut place = at;
+    let mut i = 0;
+    while i < words.len() {
+        if line.len() <= place {
+            return false;
+        }
+        if line[place] != words[i] {
+            return false;
+        }
+        place += 1;
+        i += 1;
+    }
+    true
+}
+
+// Whether a digit stands at a place.
+fn digit_at(line: &[u8], at: usize) -> bool
+    ensures { λ r. ⌜ r ≡ startsWithDigit (drop at (now (line .entry))) ⌝ }
+{
+    if line.len() <= at {
+        return false;
+    }
+    let byte = line[at];
+    if byte < b'0' {
+        return false;
+    }
+    byte <= b'9'
+}
+
+// The value of the digits from a place on.
+fn value(line: &[u8], from: usize) -> u64
+    ensures { λ r. ⌜ r ≡ valueFrom 0 (drop from (now (line .entry))) ⌝ }
+{
+    let mut value = 0;
+    let mut at = from;
+    while digit_at(line, at) {
+        value = with_digit(value, line[at]);
+        at += 1;
+    }
+    value
+}
+
+// A number with one digit more; the largest of 64 bits where that does not fit.
+fn with_digit(value: u64, byte: u8) -> u64
+    requires { ⌜ 48 ≤ byte ⌝ }
+    ensures { λ r. ⌜ r ≡ grown value byte ⌝ }
+{
+    let digit = (byte - b'0') as u64;
+    if (u64::MAX - digit) / 10 < value {
+        return u64::MAX;
+    }
+    value * 10 + digit
+}

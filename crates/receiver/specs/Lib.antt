@@ -1,0 +1,3 @@
+pub mod Hears
+pub mod Late
+pub mod Ranges
