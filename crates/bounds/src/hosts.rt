@@ -1,93 +1,109 @@
-// Hosts, each made of its heading and its line.
+// Hosts and serial sessions.
 ghost use Prim.Native.Nat.{_≤_};
-use crate::lines::small;
-use crate::lines::which;
-use crate::places;
 use crate::print;
-use crate::serials;
+use crate::words;
+use crate::words::number;
+use crate::words::size;
+use crate::words::small;
 use host::Host;
 use host::Planned;
+use load::Load;
+use place::Acknowledgement;
+use place::Ending;
+use place::Phase;
+use place::Place;
+use serial::Packing;
+use serial::Serial;
+use serial::Stepped;
+use serial::Wire;
 use session::Session;
 use settings::Settings;
+use units::Bytes;
 use units::Seen;
 
-// A step of a host, or of a serial session. It is lent zeros.
-pub(crate) fn step(heading: u64, line: &[u8]) {
-    known(kind(line), heading, line, length(line));
-}
-
-// Which of these words the line has: 1 is a serial session, more is a host, and 0 is not known.
-fn kind(line: &[u8]) -> u64 {
-    which(
-        line,
-        b"serial \n\
-        t \n\
-        command \n\
-        pulses \n",
-        1,
-        0,
-    )
-}
-
-// How many zeros are lent: as many as the load has, where the line says nothing else.
-fn length(line: &[u8]) -> u32 {
-    small(line, b"lent ", small(line, b"length ", 44))
-}
-
-fn known(kind: u64, heading: u64, line: &[u8], length: u32) {
-    if 32_768 < length {
-        return print::unknown();
-    }
-    match kind {
-        0 => print::unknown(),
-        _ => lent(kind, heading, line, length),
-    }
-}
-
-fn lent(kind: u64, heading: u64, line: &[u8], length: u32)
-    requires { ⌜ length ≤ 32768 ⌝ }
-{
+// Each is lent zeros: as many as its load has, where the case says nothing else.
+pub(crate) fn step_host(line: &[u8]) {
     let zeros = [0u8; 32_768];
-    played(kind, heading, line, &zeros[..length as usize]);
-}
-
-fn played(kind: u64, heading: u64, line: &[u8], image: &[u8]) {
-    match kind {
-        1 => serials::played(heading, line, image),
-        _ => shown(host(heading, line).step(image, Seen::Silence)),
+    match host(line).step(&zeros[..lent(line)], Seen::Silence) {
+        Planned::Refused(n) => print::number(print::REFUSED, n as u64),
+        Planned::Taken(_) => print::word(print::TAKEN),
     }
 }
 
-fn shown(planned: Planned) {
-    match planned {
-        Planned::Refused(n) => print::refused(n),
-        Planned::Taken(_) => print::taken(),
+pub(crate) fn step_serial(line: &[u8]) {
+    let zeros = [0u8; 32_768];
+    match serial(line).step(&zeros[..lent(line)], Wire::Nothing) {
+        Stepped::Refused(n) => print::number(print::REFUSED, n as u64),
+        Stepped::Taken(_) => print::word(print::TAKEN),
     }
 }
 
-fn host(heading: u64, line: &[u8]) -> Host {
+fn lent(line: &[u8]) -> usize
+    ensures { λ r. ⌜ r ≤ 32768 ⌝ }
+{
+    size(line, words::LENT, small(line, words::LENGTH, 44))
+}
+
+fn host(line: &[u8]) -> Host {
     Host {
-        settings: settings(line),
-        session: session(heading, line),
-        time: cases::number(line, b"time ", 0),
+        settings: Settings {
+            t: small(line, words::T, 8_600),
+            h: small(line, words::H, 8_600),
+            p: small(line, words::P, 700_000),
+        },
+        session: session(line),
+        time: number(line, words::TIME, 0),
     }
 }
 
-fn settings(line: &[u8]) -> Settings {
-    Settings {
-        t: small(line, b"t ", 8_600),
-        h: small(line, b"h ", 8_600),
-        p: small(line, b"p ", 700_000),
-    }
-}
-
-fn session(heading: u64, line: &[u8]) -> Session {
-    let pulses = small(line, b"pulses ", 0);
+fn session(line: &[u8]) -> Session {
+    let pulses = small(line, words::PULSES, 0);
     Session {
-        load: places::load(line),
-        place: places::place(heading, line),
+        load: Load {
+            command: small(line, words::COMMAND, 1),
+            length: Bytes(small(line, words::LENGTH, 44) as usize),
+        },
+        place: Place {
+            phase: phase(small(line, words::PHASE, 0)),
+            index: small(line, words::INDEX, 0),
+        },
         pulses,
-        ones: small(line, b"ones ", 0),
-        zeros: small(line, b"zeros ", pulses),
+        ones: small(line, words::ONES, 0),
+        zeros: small(line, words::ZEROS, pulses),
+    }
+}
+
+// The load and the place of a session.
+fn serial(line: &[u8]) -> Serial {
+    let session = session(line);
+    let load = session.load;
+    let place = session.place;
+    Serial {
+        load,
+        place,
+        packing: Packing::Three,
+    }
+}
+
+// The table's phases of a host.
+fn phase(n: u32) -> Phase {
+    match n {
+        1 => Phase::Handshake,
+        2 => Phase::Connection,
+        3 => Phase::Version(255),
+        4 => Phase::Command,
+        5 => Phase::Zeros,
+        6 => Phase::Size,
+        7 => Phase::Image,
+        8 => Phase::Wait(Acknowledgement::Ram),
+        9 => Phase::Wait(Acknowledgement::Programming),
+        10 => Phase::Wait(Acknowledgement::Verification),
+        11 => Phase::Ended(Ending::Done),
+        12 => Phase::Ended(Ending::Lost),
+        13 => Phase::Ended(Ending::WrongVersion),
+        14 => Phase::Ended(Ending::BadRam),
+        15 => Phase::Ended(Ending::BadProgramming),
+        16 => Phase::Ended(Ending::BadVerification),
+        _ => Phase::Calibration,
     }
 }

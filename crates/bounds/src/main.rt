@@ -3,9 +3,10 @@
 mod chips;
 mod hosts;
 mod lines;
-mod places;
 mod print;
-mod serials;
+mod words;
+
+use words::said;
 
 fn main() {
     // One byte more than a table may have, so that a longer one is seen to be too long.
@@ -14,53 +15,39 @@ fn main() {
     if n < 16_385 {
         play(&table[..n]);
     } else {
-        print::say(b"the table has more than 16384 bytes\n");
+        print::word(print::TOO_LONG);
+        print::end();
     }
 }
 
-// A heading goes by its number: that of a host is below 100, that of a chip below 200, and 200 stands for one that is not known.
 fn play(table: &[u8]) {
-    let mut heading = 200;
     let mut from = 0;
     while from < table.len() {
         let end = lines::end(table, from);
-        heading = line(heading, table[from], &table[from..end]);
+        if table[from] != b'#' {
+            line(&table[from..end]);
+        }
         from = end + 1;
     }
 }
 
-// Plays a line below a heading, and says which heading the next line is below.
-fn line(heading: u64, first: u8, line: &[u8]) -> u64 {
-    match first {
-        b'#' => heading,
-        b' ' => indented(heading, line),
-        _ => headed(line),
-    }
-}
-
-fn indented(heading: u64, line: &[u8]) -> u64 {
-    if line.len() < 2 {
-        return headed(line);
-    }
-    match line[1] {
-        b' ' => case(heading, &line[2..]),
-        _ => headed(line),
-    }
-}
-
-fn headed(line: &[u8]) -> u64 {
-    print::say(line);
-    print::end();
-    places::heading(line, chips::heading(line, 200))
-}
-
-fn case(heading: u64, line: &[u8]) -> u64 {
-    print::say(line);
-    match heading / 100 {
-        0 => hosts::step(heading, line),
-        1 => chips::step(heading, line),
-        _ => print::unknown(),
+// A line is printed up to its bar. One that has a bar is a case, any other a heading.
+fn line(line: &[u8]) {
+    let bar = lines::bar(line);
+    print::say(&line[..bar]);
+    if bar < line.len() {
+        step(line);
     }
     print::end();
-    heading
+}
+
+// Steps a host, a serial session or a chip.
+fn step(line: &[u8]) {
+    if said(line, words::HOST) {
+        return hosts::step_host(line);
+    }
+    if said(line, words::SERIAL) {
+        return hosts::step_serial(line);
+    }
+    chips::step(line);
 }

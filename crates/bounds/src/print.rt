@@ -1,46 +1,53 @@
-// What is printed behind a case.
+// What is printed.
 use units::Seen;
+
+// The words, each by its place on the list.
+pub(crate) const REFUSED: u32 = 0;
+
+pub(crate) const TAKEN: u32 = 1;
+
+const REPLIES: u32 = 2;
+
+const RAM: u32 = 3;
+
+const EEPROM: u32 = 4;
+
+pub(crate) const TOO_LONG: u32 = 5;
 
 pub(crate) fn say(words: &[u8]) {
     io::write_all(1, words);
-}
-
-fn number(words: &[u8], n: u64) {
-    say(words);
-    io::print_decimal(1, n);
 }
 
 pub(crate) fn end() {
     say(b"\n");
 }
 
-pub(crate) fn unknown() {
-    say(b": not understood");
+pub(crate) fn word(n: u32) {
+    let words: &[u8] = b": refused \n\
+        : taken\n\
+        : taken, replies \n\
+        \x20ram \n\
+        \x20eeprom \n\
+        the table has more than 16384 bytes\n";
+    say(cases::line(words, n));
 }
 
-pub(crate) fn refused(n: u8) {
-    number(b": refused ", n as u64);
-}
-
-pub(crate) fn taken() {
-    say(b": taken");
+pub(crate) fn number(word: u32, n: u64) {
+    self::word(word);
+    io::print_decimal(1, n);
 }
 
 // A pulse that was taken, with the chip's reply.
 pub(crate) fn replied(reply: Seen) {
     match reply {
-        Seen::Silence => taken(),
-        Seen::Zero => bit(0),
-        Seen::One => bit(1),
+        Seen::Silence => word(TAKEN),
+        Seen::Zero => number(REPLIES, 0),
+        Seen::One => number(REPLIES, 1),
     }
-}
-
-fn bit(bit: u64) {
-    number(b": taken, replies ", bit);
 }
 
 // The plain sums of both memories.
 pub(crate) fn sums(ram: &[u8], eeprom: &[u8]) {
-    number(b" ram ", lent::total(ram));
-    number(b" eeprom ", lent::total(eeprom));
+    number(RAM, lent::total(ram));
+    number(EEPROM, lent::total(eeprom));
 }

@@ -12,19 +12,15 @@ use lib.ListN.{length, getD, drop, drop-of-length-le, length-drop}
 use lib.Seq.{drop-cons, drop-drop, drop-length}
 use borrow.Author.Tests.{eq-eqb, ne-eqb, leb-true}
 use Rattle.terms.specs.Choice.{when}
-use Rattle.terms.proofs.Refusals.{row-given, row-passed, either-here, either-passed, both-failed, both-passed}
+use Rattle.terms.proofs.Refusals.{row-given, row-passed, both-failed, both-passed}
 use Rattle.terms.proofs.Tests.{when-true, when-false, both-true}
-use Rattle.cases.specs.Cases.{untilNewline, lineEnd, startsWith, begin, hasFrom, behind, isDigit, startsWithDigit, grown, valueFrom, numberFrom}
+use Rattle.cases.specs.Cases.{untilNewline, lineEnd, startsWith, begin, behind, isDigit, startsWithDigit, grown, valueFrom, numberFrom}
 
 module _ (text : List ℕ) (at : ℕ) where
   module _ (past : length text ≤ at) where
     pub end-past : at ≡ lineEnd text at
     unfolding lineEnd untilNewline
     end-past = rw (drop-of-length-le text past) (sym (add-zero at))
-
-    pub has-past : (fresh : Bool) (words : List ℕ) → false ≡ hasFrom fresh (drop at text) words
-    unfolding hasFrom
-    has-past fresh words = rw (drop-of-length-le text past) refl
 
     pub digit-past : false ≡ startsWithDigit (drop at text)
     unfolding startsWithDigit
@@ -51,15 +47,6 @@ module _ (text : List ℕ) (at : ℕ) where
     digit-here = rw here refl
 
     module _ (fresh : Bool) (words : List ℕ) where
-      pub has-here : begin fresh (drop at text) words ≡ true → true ≡ hasFrom fresh (drop at text) words
-      unfolding hasFrom
-      has-here b = rw here (either-here _ _ (rw here at b))
-
-      pub has-later : begin fresh (drop at text) words ≡ false
-          → hasFrom (eqb (getD text at 0) 32) (drop (at + 1) text) words ≡ hasFrom fresh (drop at text) words
-      unfolding hasFrom
-      has-later b = rw here (either-passed _ _ _ (rw here at b) refl)
-
       module _ (otherwise : ℕ) (rest : List ℕ) (e : rest ≡ behind fresh (drop at text) words) where
         number-at : numberFrom fresh (drop at text) words otherwise
             ≡ when (startsWithDigit rest) (valueFrom 0 rest) (numberFrom (eqb (getD text at 0) 32) (drop (at + 1) text) words otherwise)

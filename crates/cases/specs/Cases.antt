@@ -2,10 +2,10 @@
 -- Assumes nothing.
 use mathlib.Core.Bool.{Bool, true, false}
 use mathlib.Core.List.{List, [], _∷_}
-use Prim.Native.Nat.{ℕ, _+_, _-_, _*_, min}
+use Prim.Native.Nat.{ℕ, zero, suc, _+_, _-_, _*_, min}
 use lib.Dec.{eqb, leb}
-use lib.ListN.{length, drop}
-use Rattle.terms.specs.Choice.{when, both, either}
+use lib.ListN.{length, take, drop}
+use Rattle.terms.specs.Choice.{when, both}
 
 -- How many bytes stand before the first newline, byte 10; all of them where there is none.
 unfoldable pub untilNewline : List ℕ → ℕ
@@ -16,6 +16,22 @@ untilNewline (byte ∷ text) = when (eqb byte 10) 0 (untilNewline text + 1)
 unfoldable pub lineEnd : List ℕ → ℕ → ℕ
 lineEnd text from = from + untilNewline (drop from text)
 
+-- Where the line starts that follows the one at a place; the text's end where none does.
+unfoldable pub nextLine : List ℕ → ℕ → ℕ
+nextLine text from = min (length text) (lineEnd text from + 1)
+
+-- Where a line starts, by its number from 0 on.
+unfoldable pub lineStart : List ℕ → ℕ → ℕ
+lineStart text zero = 0
+lineStart text (suc n) = nextLine text (lineStart text n)
+
+-- Its bytes, and where they lie: a text lies at a place of a block.
+unfoldable pub lineBytes : List ℕ → ℕ → List ℕ
+lineBytes text n = take (untilNewline (drop (lineStart text n) text)) (drop (lineStart text n) text)
+
+unfoldable pub linePlace : ℕ × ℕ → List ℕ → ℕ → ℕ × ℕ
+linePlace place text n = (place .0, place .1 + lineStart text n)
+
 -- The words stand at a text's start.
 unfoldable pub startsWith : List ℕ → List ℕ → Bool
 startsWith text [] = true
@@ -25,15 +41,6 @@ startsWith (byte ∷ text) (word ∷ words) = both (eqb byte word) (startsWith t
 -- Words begin at a fresh place only: at a line's start, or right behind a space, byte 32.
 abbrev pub begin : Bool → List ℕ → List ℕ → Bool
 begin fresh line words = both fresh (startsWith line words)
-
--- The words begin at one of a line's places.
-unfoldable pub hasFrom : Bool → List ℕ → List ℕ → Bool
-hasFrom fresh [] words = false
-hasFrom fresh (byte ∷ line) words = either (begin fresh (byte ∷ line) words) (hasFrom (eqb byte 32) line words)
-
--- The same from the line's start, which is fresh.
-abbrev pub has : List ℕ → List ℕ → Bool
-has line words = hasFrom true line words
 
 -- What stands right behind words that begin a line. Behind words that do not, nothing stands.
 unfoldable pub behind : Bool → List ℕ → List ℕ → List ℕ

@@ -2,7 +2,8 @@
 ghost use mathlib.Core.Path.{_≡_};
 ghost use Prim.Native.Nat.{_≤_};
 ghost use lib.ListN.{drop};
-ghost use Rattle.cases.specs.Cases.{lineEnd, begin, has, behind, startsWithDigit, grown, valueFrom, number};
+ghost use denote.Ref.{ptr};
+ghost use Rattle.cases.specs.Cases.{lineEnd, nextLine, lineStart, lineBytes, linePlace, begin, behind, startsWithDigit, grown, valueFrom, number};
 use units::Bytes;
 
 // Where the line ends that a place stands in: at the next newline, or with the text. A place past the text's end is its own line's end.
@@ -19,23 +20,42 @@ pub fn line_end(text: &[u8], from: Bytes) -> Bytes
     Bytes(at)
 }
 
-// Whether the words stand in a line, at its start or right behind a space.
-pub fn has(line: &[u8], words: &[u8]) -> bool
-    ensures { λ r. ⌜ r ≡ has (now (line .entry)) (now (words .entry)) ⌝ }
+// Line n of a text, counted from 0, as a part of it. Past the last line it is empty.
+pub fn line<'a>(text: &'a [u8], n: u32) -> &'a [u8]
+    ensures { λ r. ⌜ now r ≡ lineBytes (now (text .entry)) n ⌝ }
+    ensures { λ r. ⌜ ptr r ≡ linePlace (ptr (text .entry)) (now (text .entry)) n ⌝ }
 {
-    let mut fresh = true;
-    let mut at = 0;
-    while at < line.len() {
-        if begin(line, at, words, fresh) {
-            return true;
-        }
-        fresh = line[at] == b' ';
-        at += 1;
-    }
-    false
+    let start = line_start(text, n);
+    let end = line_end(text, Bytes(start)).0;
+    &text[start..end]
 }
 
-// The number behind the words, where they stand so for the first time with a digit behind them; `otherwise` where they do not. One
+// Where line n starts; past the last line with the text's end.
+fn line_start(text: &[u8], n: u32) -> usize
+    ensures { λ r. ⌜ r ≡ lineStart (now (text .entry)) n ⌝ }
+{
+    let mut start = 0;
+    let mut i = 0;
+    while i < n {
+        start = next_line(text, start);
+        i += 1;
+    }
+    start
+}
+
+// Where the line starts that follows the one at a place.
+fn next_line(text: &[u8], from: usize) -> usize
+    ensures { λ r. ⌜ r ≡ nextLine (now (text .entry)) from ⌝ }
+{
+    let end = line_end(text, Bytes(from)).0;
+    if text.len() <= end {
+        return text.len();
+    }
+    end + 1
+}
+
+// The number right behind the words, where they stand for the first time at a line's start or behind a space with a digit behind them;
+// `otherwise` where they do not. One
 // that does not fit 64 bits is the largest that does.
 pub fn number(line: &[u8], words: &[u8], otherwise: u64) -> u64
     ensures { λ r. ⌜ r ≡ number (now (line .entry)) (now (words .entry)) otherwise ⌝ }

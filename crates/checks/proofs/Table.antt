@@ -16,7 +16,7 @@ use Rattle.settings.specs.Settings.{outside, settingsOutside}
 use Rattle.ram.specs.Ram.{flagged, flaggedBelow}
 use Rattle.ram.proofs.Stored.{flags-of-0, flags-of-4}
 use Rattle.follow.specs.Follow.{onward, next}
-use Rattle.place.specs.Ranges.{placeOutside}
+use Rattle.range.specs.Ranges.{placeOutside}
 use Rattle.sequence.specs.Sequence.{advanced, state, draw, draws}
 use Rattle.session.specs.Ranges.{sessionOutside}
 use Rattle.load.specs.Load.{otherImage}

@@ -15,7 +15,7 @@ use Rattle.bits.specs.Bits.{pairBit}
 use Rattle.follow.specs.Follow.{opened, after, afterVersion, afterCommand, onward, shows, afterConnection}
 use Rattle.follow.specs.Follow.{afterVersionPair, afterRam, afterGood, bad, afterWaitPair, afterPair, next}
 use Rattle.place.specs.Phases.{imagePulses, pairs, places, ended}
-use Rattle.place.specs.Ranges.{before, leastCommand, leastEnding}
+use Rattle.range.specs.Ranges.{before, leastCommand, leastEnding}
 use Rattle.place.specs.declared.Acknowledgement.{Acknowledgement}
 use Rattle.place.specs.declared.Acknowledgement.the-variants.{Ram, Programming, Verification}
 use Rattle.place.specs.declared.Ending.{Ending}
@@ -23,7 +23,7 @@ use Rattle.place.specs.declared.Ending.the-variants.{Done, Lost, WrongVersion, 
 use Rattle.place.specs.declared.Phase.{Phase}
 use Rattle.place.specs.declared.Phase.the-variants.{Calibration, Handshake, Connection, Version, Command, Zeros, Size, Image, Wait, Ended}
 use Rattle.place.specs.declared.Place.{Place}
-use Rattle.place.proofs.Bounds.{phase-most}
+use Rattle.range.proofs.Bounds.{phase-most}
 
 -- The command has the phase, the phase has the index, and no more pulses were sent than can be before the place.
 pub record Stands (load : Load) (pulses : ℕ) (place : Place) : Type 0 where

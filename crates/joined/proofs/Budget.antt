@@ -10,7 +10,7 @@ use Rattle.terms.proofs.Tests.{differ-false}
 use Rattle.terms.proofs.Refusals.{taken-exactly}
 use Rattle.terms.specs.Refusals.{taken}
 use Rattle.load.specs.Load.{otherImage}
-use Rattle.place.proofs.Bounds.{phase-most}
+use Rattle.range.proofs.Bounds.{phase-most}
 use Rattle.host.specs.Step.{hostStart}
 use Rattle.host.specs.declared.Host.{Host}
 use Rattle.host.proofs.Kept.{start-keeps}

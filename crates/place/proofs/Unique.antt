@@ -14,10 +14,6 @@ use Rattle.place.proofs.Phase.places.Kinds as places-kinds
 use Rattle.place.proofs.Phase.places.Reads as places
 use Rattle.place.proofs.Place.has_ended.Kinds as has-ended-kinds
 use Rattle.place.proofs.Place.has_ended.Reads as has-ended
-use Rattle.place.proofs.Place.is_outside.Kinds as is-outside-kinds
-use Rattle.place.proofs.Place.is_outside.Reads as is-outside
-use Rattle.place.proofs.Place.pulses_before.Kinds as pulses-before-kinds
-use Rattle.place.proofs.Place.pulses_before.Reads as pulses-before
 
 pub number-one : OneAnswer number-kinds.ps number-kinds.r number.Post
 number-one κs a r₁ r₂ e₁ e₂ p q = p ∙ sym q
@@ -30,12 +26,6 @@ carries-one κs a r₁ r₂ e₁ e₂ p q = p ∙ sym q
 
 pub end-one : OneAnswer end-kinds.ps end-kinds.r end.Post
 end-one κs a r₁ r₂ e₁ e₂ p q = one-told toldEnd backEnd back-told-end r₁ r₂ p q
-
-pub is-outside-one : OneAnswer is-outside-kinds.ps is-outside-kinds.r is-outside.Post
-is-outside-one κs a r₁ r₂ e₁ e₂ p q = p ∙ sym q
-
-pub pulses-before-one : OneAnswer pulses-before-kinds.ps pulses-before-kinds.r pulses-before.Post
-pulses-before-one κs a r₁ r₂ e₁ e₂ p q = p ∙ sym q
 
 pub has-ended-one : OneAnswer has-ended-kinds.ps has-ended-kinds.r has-ended.Post
 has-ended-one κs a r₁ r₂ e₁ e₂ p q = p ∙ sym q

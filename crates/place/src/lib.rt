@@ -1,11 +1,9 @@
 // Where a session stands, without time: its phases, each with its pulses, and its endings.
 ghost use mathlib.Core.Path.{_≡_};
-ghost use Prim.Native.Nat.{_+_};
 ghost use Rattle.place.specs.Endings.{endAt, number, toldEnd};
 ghost use Rattle.place.specs.Phases.{carries, ended, places};
-ghost use Rattle.place.specs.Ranges.{before, placeOutside};
 
-mod phases;
+mod pulses;
 
 use load::Load;
 
@@ -79,11 +77,39 @@ impl Ending {
 }
 
 impl Phase {
+    // The pulses of each phase. A value is a command, a size, or the zeros after a wrong version; the waits are at their longest.
+    pub const CALIBRATION_PULSES: u32 = 2;
+
+    pub const HANDSHAKE_PULSES: u32 = 250;
+
+    pub const CONNECTION_PULSES: u32 = 250 * 2;
+
+    pub const VERSION_PULSES: u32 = 8 * 2;
+
+    pub const VALUE_PULSES: u32 = 32;
+
+    pub const RAM_PULSES: u32 = 25 * 2;
+
+    pub const PROGRAMMING_PULSES: u32 = 500 * 2;
+
+    pub const VERIFICATION_PULSES: u32 = 200 * 2;
+
     // The pulses that a load's session sends in this phase; one place, where nothing is sent, for a session that has ended.
     pub fn places(self, load: Load) -> u32
         ensures { λ r. ⌜ r ≡ places load self ⌝ }
     {
-        phases::places(load, self)
+        match self {
+            Phase::Calibration => Phase::CALIBRATION_PULSES,
+            Phase::Handshake => Phase::HANDSHAKE_PULSES,
+            Phase::Connection => Phase::CONNECTION_PULSES,
+            Phase::Version(_) => Phase::VERSION_PULSES,
+            Phase::Command => Phase::VALUE_PULSES,
+            Phase::Zeros => Phase::VALUE_PULSES,
+            Phase::Size => Phase::VALUE_PULSES,
+            Phase::Image => pulses::image(load),
+            Phase::Wait(awaited) => pulses::wait(awaited),
+            Phase::Ended(_) => 1,
+        }
     }
 
     pub fn carries(self) -> Carries
@@ -123,25 +149,6 @@ impl Phase {
 }
 
 impl Place {
-    // Whether the load's session has no such place.
-    pub fn is_outside(self, load: Load) -> bool
-        ensures { λ r. ⌜ r ≡ placeOutside load (self .phase) (self .index) ⌝ }
-    {
-        let phase = self.phase;
-        if load.command < phases::least_command(phase) {
-            return true;
-        }
-        phases::places(load, phase) <= self.index
-    }
-
-    // The most pulses that a load's session can have sent before this place.
-    pub fn pulses_before(self, load: Load) -> u64
-        ensures { λ r. ⌜ r ≡ before load (self .phase) + self .index ⌝ }
-    {
-        let phase = self.phase;
-        phases::pulses_before(load, phase) + self.index as u64
-    }
-
     // Whether the session has ended.
     pub fn has_ended(self) -> bool
         ensures { λ r. ⌜ r ≡ ended (self .phase) ⌝ }

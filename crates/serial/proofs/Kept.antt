@@ -18,7 +18,7 @@ use Rattle.bits.specs.Bits.{sentBit}
 use Rattle.follow.specs.Follow.{onward, next}
 use Rattle.follow.proofs.Stands.{Stands, opened-stands, onward-stands, next-stands}
 use Rattle.place.specs.Phases.{ended}
-use Rattle.place.specs.Ranges.{placeOutside}
+use Rattle.range.specs.Ranges.{placeOutside}
 use Rattle.place.specs.declared.Phase.the-variants.{Calibration}
 use Rattle.place.specs.declared.Place.{Place}
 use Rattle.frames.specs.Frames.{fits, with}

@@ -8,7 +8,7 @@ use Rattle.terms.specs.Refusals.{Row, Answer, refused, taken, _given-when_, fir
 use Rattle.load.specs.Load.{loadRows, loadOf, loadOutside, otherImage}
 use Rattle.load.specs.declared.Load.{Load}
 use Rattle.place.specs.Phases.{ended}
-use Rattle.place.specs.Ranges.{placeOutside}
+use Rattle.range.specs.Ranges.{placeOutside}
 use Rattle.place.specs.declared.Phase.{Phase}
 use Rattle.place.specs.declared.Phase.the-variants.{Calibration}
 use Rattle.place.specs.declared.Place.{Place}

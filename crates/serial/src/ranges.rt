@@ -10,5 +10,5 @@ pub(crate) fn is_outside(load: Load, place: Place) -> bool
     if load.is_outside() {
         return true;
     }
-    place.is_outside(load)
+    range::is_outside(place, load)
 }

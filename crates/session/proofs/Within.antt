@@ -8,8 +8,8 @@ use native.Mathlib.Omega.{arith}
 use borrow.Author.Tests.{leb-false, lt-leb}
 use Rattle.terms.proofs.Tests.{either-false, less-false, differ-false}
 use Rattle.load.specs.Load.{loadOutside}
-use Rattle.place.specs.Ranges.{placeOutside}
-use Rattle.place.proofs.Bounds.{place-most}
+use Rattle.range.specs.Ranges.{placeOutside}
+use Rattle.range.proofs.Bounds.{place-most}
 use Rattle.follow.proofs.Stands.{Stands}
 use Rattle.session.specs.Ranges.{sessionOutside}
 use Rattle.session.specs.declared.Session.{Session}

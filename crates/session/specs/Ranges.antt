@@ -5,7 +5,7 @@ use Prim.Native.Nat.{_+_}
 use lib.Dec.{ltb, eqb}
 use Rattle.terms.specs.Choice.{either}
 use Rattle.load.specs.Load.{loadOutside}
-use Rattle.place.specs.Ranges.{before, placeOutside}
+use Rattle.range.specs.Ranges.{before, placeOutside}
 use Rattle.session.specs.declared.Session.{Session}
 
 -- 13: some field lies outside its range: the load, the place, more pulses than can have been sent before the place, or other ones and

@@ -11,10 +11,10 @@ pub(crate) fn is_outside(session: Session) -> bool
     if load.is_outside() {
         return true;
     }
-    if place.is_outside(load) {
+    if range::is_outside(place, load) {
         return true;
     }
-    if place.pulses_before(load) < session.pulses as u64 {
+    if range::pulses_before(place, load) < session.pulses as u64 {
         return true;
     }
     session.ones as u64 + session.zeros as u64 != session.pulses as u64

@@ -22,7 +22,7 @@ use Rattle.units.specs.declared.Ticks.{Ticks}
 use Rattle.bits.specs.Bits.{sentBit}
 use Rattle.follow.specs.Follow.{opened, next}
 use Rattle.place.specs.Phases.{imagePulses, ended}
-use Rattle.place.specs.Ranges.{before}
+use Rattle.range.specs.Ranges.{before}
 use Rattle.place.specs.declared.Phase.the-variants.{Ended}
 use Rattle.place.specs.declared.Place.{Place}
 use Rattle.session.specs.Step.{stepRows, pulseOf, sessionStep}

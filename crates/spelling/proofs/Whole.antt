@@ -19,7 +19,7 @@ use Rattle.load.proofs.Within.{load-within, start-within}
 use Rattle.follow.specs.Follow.{opened}
 use Rattle.follow.proofs.Stands.{Stands, opened-stands}
 use Rattle.place.specs.Phases.{imagePulses, ended}
-use Rattle.place.specs.Ranges.{before, placeOutside}
+use Rattle.range.specs.Ranges.{before, placeOutside}
 use Rattle.place.specs.declared.Phase.the-variants.{Calibration, Ended}
 use Rattle.place.specs.declared.Place.{Place}
 use Rattle.session.specs.Step as session

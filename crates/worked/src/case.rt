@@ -1,60 +1,104 @@
-// What a case says, and what stands where it says nothing: a load of S by command 1, with the figures of 01's program.
-ghost use mathlib.Core.Path.{_≡_};
-ghost use Prim.Native.Nat.{_≤_};
-ghost use lib.ListN.{length};
-use crate::play;
+// What a case says. It is a load of S by command 1, with the figures of 01's program, but for what its line says.
 use crate::print;
-use crate::sample;
+use crate::stepped;
+use crate::whole;
 use eeprom::Fault;
 use units::Bytes;
 
-// Each case has memories of its own: the EEPROM holds S, which would boot, and each byte of the RAM is 1.
+// What a line may say, each by its place on the list of names.
+pub(crate) const T: u32 = 0;
+
+pub(crate) const H: u32 = 1;
+
+pub(crate) const P: u32 = 2;
+
+pub(crate) const COMMAND: u32 = 3;
+
+pub(crate) const LENGTH: u32 = 4;
+
+pub(crate) const RAM: u32 = 5;
+
+pub(crate) const EEPROM: u32 = 6;
+
+pub(crate) const BYTE: u32 = 7;
+
+pub(crate) const IS: u32 = 8;
+
+const SENT: u32 = 9;
+
+pub(crate) const BYTE_0: u32 = 10;
+
+pub(crate) const BYTE_6: u32 = 11;
+
+const ACCEPTS: u32 = 12;
+
+const READS: u32 = 13;
+
+const AT: u32 = 14;
+
+pub(crate) const PULSE: u32 = 15;
+
+pub(crate) const WAIT: u32 = 16;
+
+pub(crate) const LOW: u32 = 17;
+
+pub(crate) const SEEN: u32 = 18;
+
+// A number that a line does not say.
+pub(crate) const UNSAID: u32 = u32::MAX;
+
+// A case with a pulse, or with a byte that is sent as another, is stepped.
 pub(crate) fn run(line: &[u8]) {
     print::say(line);
-    let image = image(line);
-    let mut ram = [1u8; 32_768];
-    let mut eeprom = sample::eeprom();
-    let length = size(line, b"length ", 44);
-    let a = size(line, b"ram of ", 32_768);
-    let b = size(line, b"eeprom of ", 32_768);
-    play::case(line, &image[0..length], &mut ram[0..a], &mut eeprom[0..b]);
+    if says(line, PULSE) {
+        return stepped::case(line);
+    }
+    if says(line, SENT) {
+        return stepped::case(line);
+    }
+    whole::case(line);
 }
 
-fn image(line: &[u8]) -> [u8; 32_768]
-    ensures { λ r. ⌜ 32768 ≡ length r ⌝ }
-{
-    let mut image = sample::eeprom();
-    let at = (small(line, b"byte ", 0) % 32_768) as usize;
-    image[at] = byte(line, b"is ", image[at]);
-    image[0] = byte(line, b"byte 0 sent as ", image[0]);
-    image[6] = byte(line, b"byte 6 sent as ", image[6]);
-    image
+// The number behind a name of the list.
+pub(crate) fn number(line: &[u8], name: u32, otherwise: u32) -> u32 {
+    let names: &[u8] = b"t \n\
+        h \n\
+        p \n\
+        command \n\
+        length \n\
+        ram of \n\
+        eeprom of \n\
+        byte \n\
+        is \n\
+        sent as \n\
+        byte 0 sent as \n\
+        byte 6 sent as \n\
+        accepts \n\
+        reads \n\
+        at \n\
+        pulse \n\
+        wait \n\
+        low \n\
+        seen \n";
+    (cases::number(line, cases::line(names, name), otherwise as u64) % 4_294_967_296) as u32
 }
 
-// The number behind the words.
-pub(crate) fn small(line: &[u8], words: &[u8], otherwise: u32) -> u32 {
-    (cases::number(line, words, otherwise as u64) % 4_294_967_296) as u32
+// Whether the line says a number there.
+fn says(line: &[u8], name: u32) -> bool {
+    number(line, name, UNSAID) != UNSAID
 }
 
-fn byte(line: &[u8], words: &[u8], otherwise: u8) -> u8 {
-    (cases::number(line, words, otherwise as u64) % 256) as u8
-}
-
-// How many bytes of a memory, or of an image, are lent.
-fn size(line: &[u8], words: &[u8], otherwise: u64) -> usize
-    ensures { λ r. ⌜ r ≤ 32768 ⌝ }
-{
-    (cases::number(line, words, otherwise) % 32_769) as usize
+// The number cut to a byte.
+pub(crate) fn byte(line: &[u8], name: u32, otherwise: u32) -> u8 {
+    (number(line, name, otherwise) % 256) as u8
 }
 
 pub(crate) fn fault(line: &[u8]) -> Fault {
-    let pages = small(line, b"accepts ", u32::MAX);
-    let value = small(line, b"reads ", u32::MAX);
-    if pages < u32::MAX {
-        Fault::Accepts(pages)
-    } else if value < 256 {
-        Fault::Reads(value as u8, Bytes(small(line, b"at ", 0) as usize))
-    } else {
-        Fault::None
+    if says(line, ACCEPTS) {
+        return Fault::Accepts(number(line, ACCEPTS, 0));
     }
+    if says(line, READS) {
+        return Fault::Reads(byte(line, READS, 0), Bytes(number(line, AT, 0) as usize));
+    }
+    Fault::None
 }

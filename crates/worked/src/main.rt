@@ -2,27 +2,28 @@
 // A line of it that starts with `#` is a comment, one that is indented by two spaces is a case, printed with what came of it, and any other
 // is a heading, printed as it is.
 mod case;
-mod play;
+mod lines;
 mod print;
 mod sample;
-
-use units::Bytes;
+mod stepped;
+mod whole;
 
 fn main() {
     // One byte more than a table may have, so that a longer one is seen to be too long.
     let mut table = [0u8; 16_385];
     let n = io::read_full(0, &mut table);
     if n < 16_385 {
-        lines(&table[..n]);
+        play(&table[..n]);
     } else {
-        print::say(b"the table has more than 16384 bytes\n");
+        print::word(print::TOO_LONG);
+        print::end();
     }
 }
 
-fn lines(table: &[u8]) {
+fn play(table: &[u8]) {
     let mut from = 0;
     while from < table.len() {
-        let end = cases::line_end(table, Bytes(from)).0;
+        let end = lines::end(table, from);
         line(&table[from..end]);
         from = end + 1;
     }

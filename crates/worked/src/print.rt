@@ -1,11 +1,37 @@
 // The parts of a line.
-use chip::Chip;
-use host::Host;
 use joined::Ran;
-use joined::Report;
 use phases::ChipEnd;
 use phases::Ending;
 use place::HostEnd;
+
+// What is printed, each by its place on the list of words.
+const REFUSED: u32 = 0;
+
+pub(crate) const PULSES: u32 = 1;
+
+const ONES: u32 = 2;
+
+const ZEROS: u32 = 3;
+
+const TICKS: u32 = 4;
+
+const HOST: u32 = 5;
+
+const RAM: u32 = 6;
+
+const EEPROM: u32 = 7;
+
+const LISTENING: u32 = 8;
+
+const LAUNCHED: u32 = 9;
+
+const BOOTED: u32 = 10;
+
+const SHUT: u32 = 11;
+
+const OFF: u32 = 12;
+
+pub(crate) const TOO_LONG: u32 = 13;
 
 pub(crate) fn say(words: &[u8]) {
     io::write_all(1, words);
@@ -13,69 +39,74 @@ pub(crate) fn say(words: &[u8]) {
 
 pub(crate) fn heading(line: &[u8]) {
     say(line);
+    end();
+}
+
+pub(crate) fn end() {
     say(b"\n");
 }
 
-pub(crate) fn number(words: &[u8], n: u64) {
-    say(words);
-    io::print_decimal(1, n);
+pub(crate) fn word(n: u32) {
+    let words: &[u8] = b": refused \n\
+        : pulses \n\
+        \x20ones \n\
+        \x20zeros \n\
+        \x20ticks \n\
+        \x20host \n\
+        \x20ram \n\
+        \x20eeprom \n\
+        \x20chip listening\n\
+        \x20chip launched\n\
+        \x20chip booted\n\
+        \x20chip shut\n\
+        \x20chip off\n\
+        the table has more than 16384 bytes\n";
+    say(cases::line(words, n));
 }
 
-pub(crate) fn refused(n: u8) {
-    number(b": refused ", n as u64);
+pub(crate) fn number(word: u32, n: u64) {
+    self::word(word);
+    io::print_decimal(1, n);
 }
 
 pub(crate) fn ran(ran: Ran) {
     match ran {
-        Ran::Refused(n) => refused(n),
-        Ran::Finished(report) => finished(report),
+        Ran::Refused(n) => number(REFUSED, n as u64),
+        Ran::Finished(report) => {
+            number(PULSES, report.pulses as u64);
+            number(ONES, report.ones as u64);
+            number(ZEROS, report.zeros as u64);
+            number(TICKS, report.ticks.0);
+            let host = report.host;
+            number(HOST, host.number() as u64);
+            let end = report.chip;
+            chip(end);
+        }
     }
 }
 
-fn finished(report: Report) {
-    number(b": pulses ", report.pulses as u64);
-    number(b" ones ", report.ones as u64);
-    number(b" zeros ", report.zeros as u64);
-    number(b" ticks ", report.ticks.0);
-    let end = report.host;
-    print_host(end);
-    let end = report.chip;
-    print_chip(end);
-}
-
-fn print_host(end: place::Ending) {
-    number(b" host ", end.number() as u64);
-}
-
-// Host and chip where their pulses stopped.
-pub(crate) fn stopped(host: Host, chip: Chip) {
-    number(b": pulses ", host.session.pulses as u64);
-    let end = host.end();
+// How a session has ended, where it has.
+pub(crate) fn host(end: HostEnd) {
     if let HostEnd::Ended(ending) = end {
-        print_host(ending);
+        number(HOST, ending.number() as u64);
     }
-    print_chip(chip.end());
 }
 
-fn print_chip(end: ChipEnd) {
+pub(crate) fn chip(end: ChipEnd) {
     match end {
-        ChipEnd::Listening => say(b" chip listening"),
-        ChipEnd::Ended(ending) => ended(ending),
-    }
-}
-
-fn ended(ending: Ending) {
-    match ending {
-        Ending::Launched => say(b" chip launched"),
-        Ending::Booted => say(b" chip booted"),
-        Ending::Shut => say(b" chip shut"),
-        Ending::Off => say(b" chip off"),
+        ChipEnd::Listening => word(LISTENING),
+        ChipEnd::Ended(ending) => match ending {
+            Ending::Launched => word(LAUNCHED),
+            Ending::Booted => word(BOOTED),
+            Ending::Shut => word(SHUT),
+            Ending::Off => word(OFF),
+        },
     }
 }
 
 // The plain sums of both memories.
 pub(crate) fn sums(ram: &[u8], eeprom: &[u8]) {
-    number(b" ram ", lent::total(ram));
-    number(b" eeprom ", lent::total(eeprom));
-    say(b"\n");
+    number(RAM, lent::total(ram));
+    number(EEPROM, lent::total(eeprom));
+    end();
 }

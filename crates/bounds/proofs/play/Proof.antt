@@ -7,10 +7,10 @@ use Rattle.bounds.proofs.play.Statement.{statement}
 use Rattle.bounds.proofs.play.Tie as tie
 
 abbrev Inv-loop : tie.InvT-loop
-Inv-loop table heading₀ from₀ heading from = Unit {0}
+Inv-loop table from₀ from = Unit {0}
 
 abbrev μ-loop : tie.MeasureT-loop
-μ-loop table heading₀ from₀ heading from = length table - from
+μ-loop table from₀ from = length table - from
 
 loop-holds : tie.Need-loop-holds Inv-loop μ-loop
 loop-holds c = search needs
@@ -18,8 +18,8 @@ loop-holds c = search needs
 end-requires : tie.Need-end-requires Inv-loop μ-loop
 end-requires c κs = search needs
 
-shared-slice-read-line : tie.Need-shared-slice-read-line Inv-loop μ-loop
-shared-slice-read-line c = search needs
+shared-slice-read-if1 : tie.Need-shared-slice-read-if1 Inv-loop μ-loop
+shared-slice-read-if1 c = search needs
 
 sub-line : tie.Need-sub-line Inv-loop μ-loop
 sub-line c = search needs
@@ -53,7 +53,7 @@ play-spec =
     μ-loop
     loop-holds
     end-requires
-    shared-slice-read-line
+    shared-slice-read-if1
     sub-line
     part-line-start
     part-line-end

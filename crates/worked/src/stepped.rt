@@ -1,0 +1,167 @@
+// A case in which session and chip are stepped side by side, a pulse at a time.
+use crate::case;
+use crate::case::byte;
+use crate::case::number;
+use crate::print;
+use crate::sample;
+use chip::Chip;
+use load::Load;
+use place::Phase;
+use place::Place;
+use receiver::Receiver;
+use session::Session;
+use session::Stepped;
+use units::Bytes;
+use units::Loops;
+use units::Seen;
+
+// No session of S has more pulses: 832 before the image, 352 of it, and every wait to its last pair.
+const MOST_PULSES: u32 = 2_634;
+
+// The loops of a wait, and of the lows of a 1 and of a 0.
+const WAIT: u32 = 8;
+
+const ONE: u32 = 8;
+
+const ZERO: u32 = 17;
+
+// What the host sees by `seen silent`, which has no number.
+const SILENT: u32 = 2;
+
+// The pulse that the case names, counted from 1: the loops of the wait before it and of its low, which the chip measures, or what the
+// host sees around it.
+struct Named {
+    pulse: u32,
+    wait: u32,
+    low: u32,
+    seen: u32,
+}
+
+impl Named {
+    fn of(line: &[u8]) -> Named {
+        Named {
+            pulse: number(line, case::PULSE, 0),
+            wait: number(line, case::WAIT, WAIT),
+            low: number(line, case::LOW, case::UNSAID),
+            seen: number(line, case::SEEN, SILENT),
+        }
+    }
+
+    fn wait(self, n: u32) -> Loops {
+        if n == self.pulse {
+            return Loops(self.wait);
+        }
+        Loops(WAIT)
+    }
+
+    fn low(self, n: u32, bit: bool) -> Loops {
+        if n == self.pulse {
+            if self.low != case::UNSAID {
+                return Loops(self.low);
+            }
+        }
+        if bit {
+            return Loops(ONE);
+        }
+        Loops(ZERO)
+    }
+
+    fn seen(self, n: u32, reply: Seen) -> Seen {
+        if n != self.pulse {
+            return reply;
+        }
+        if self.low != case::UNSAID {
+            return reply;
+        }
+        let seen = self.seen;
+        match seen {
+            0 => Seen::Zero,
+            1 => Seen::One,
+            _ => Seen::Silence,
+        }
+    }
+}
+
+// The memories are its own: the EEPROM holds S, which would boot, and each byte of the RAM is 1.
+pub(crate) fn case(line: &[u8]) {
+    let image = image(line);
+    let mut ram = [1u8; 32_768];
+    let mut eeprom = sample::eeprom();
+    pulses(
+        Named::of(line),
+        session(line),
+        chip(line),
+        &image,
+        &mut ram,
+        &mut eeprom,
+    );
+    print::sums(&ram, &eeprom);
+}
+
+// S, with the bytes that are sent as others.
+fn image(line: &[u8]) -> [u8; 44] {
+    let mut image = sample::S;
+    image[0] = byte(line, case::BYTE_0, 0);
+    image[6] = byte(line, case::BYTE_6, 16);
+    image
+}
+
+fn pulses(
+    named: Named,
+    mut session: Session,
+    mut chip: Chip,
+    image: &[u8],
+    ram: &mut [u8],
+    eeprom: &mut [u8],
+) {
+    let mut reply = Seen::Silence;
+    let mut n = 0;
+    while n < MOST_PULSES {
+        let step = session.step(image, named.seen(n, reply));
+        let Stepped::Sent(pulse) = step else {
+            break;
+        };
+        session = pulse.session;
+        n += 1;
+        match chip.step(ram, eeprom, named.wait(n), named.low(n, pulse.bit)) {
+            chip::Stepped::Refused(_) => reply = Seen::Silence,
+            chip::Stepped::Taken(played) => {
+                chip = played.chip;
+                reply = played.reply;
+            }
+        }
+    }
+    stopped(session, chip);
+}
+
+// The session of S before its first pulse, and the chip before it.
+fn session(line: &[u8]) -> Session {
+    Session {
+        load: Load {
+            command: number(line, case::COMMAND, 1),
+            length: Bytes(44),
+        },
+        place: Place {
+            phase: Phase::Calibration,
+            index: 0,
+        },
+        pulses: 0,
+        ones: 0,
+        zeros: 0,
+    }
+}
+
+fn chip(line: &[u8]) -> Chip {
+    Chip {
+        fault: case::fault(line),
+        receiver: Receiver::FRESH,
+    }
+}
+
+fn stopped(session: Session, chip: Chip) {
+    print::number(print::PULSES, session.pulses as u64);
+    let place = session.place;
+    let phase = place.phase;
+    print::host(phase.end());
+    print::chip(chip.end());
+}
