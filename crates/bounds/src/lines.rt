@@ -1,16 +1,6 @@
-// The lines of the table.
+// A line of the table.
 ghost use Prim.Native.Nat.{_≤_};
 ghost use lib.ListN.{length};
-use units::Bytes;
-
-// Where the line ends that starts at a place of the text.
-pub(crate) fn end(text: &[u8], from: usize) -> usize
-    requires { ⌜ from ≤ length (now text) ⌝ }
-    ensures { λ r. ⌜ from ≤ r ⌝ }
-    ensures { λ r. ⌜ r ≤ length (now (text .entry)) ⌝ }
-{
-    cases::line_end(text, Bytes(from)).0
-}
 
 // Where the space stands that is before a line's bar; the line's end where it has none.
 pub(crate) fn bar(line: &[u8]) -> usize

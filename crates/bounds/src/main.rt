@@ -10,35 +10,37 @@ use words::said;
 
 fn main() {
     // One byte more than a table may have, so that a longer one is seen to be too long.
-    let mut table = [0u8; 16_385];
+    let mut table = [0u8; 32_769];
     let n = io::read_full(0, &mut table);
-    if n < 16_385 {
+    if n < 32_769 {
         play(&table[..n]);
     } else {
         print::word(print::TOO_LONG);
-        print::end();
+        io::write_all(1, b"\n");
     }
 }
 
+// No table has more lines than bytes. An empty line ends it.
 fn play(table: &[u8]) {
-    let mut from = 0;
-    while from < table.len() {
-        let end = lines::end(table, from);
-        if table[from] != b'#' {
-            line(&table[from..end]);
+    for n in 0..32_768 {
+        let line = cases::line(table, n);
+        if line.len() == 0 {
+            return;
         }
-        from = end + 1;
+        if line[0] != b'#' {
+            self::line(line);
+        }
     }
 }
 
 // A line is printed up to its bar. One that has a bar is a case, any other a heading.
 fn line(line: &[u8]) {
     let bar = lines::bar(line);
-    print::say(&line[..bar]);
+    io::write_all(1, &line[..bar]);
     if bar < line.len() {
         step(line);
     }
-    print::end();
+    io::write_all(1, b"\n");
 }
 
 // Steps a host, a serial session or a chip.

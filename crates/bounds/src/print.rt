@@ -14,22 +14,14 @@ const EEPROM: u32 = 4;
 
 pub(crate) const TOO_LONG: u32 = 5;
 
-pub(crate) fn say(words: &[u8]) {
-    io::write_all(1, words);
-}
-
-pub(crate) fn end() {
-    say(b"\n");
-}
-
 pub(crate) fn word(n: u32) {
     let words: &[u8] = b": refused \n\
         : taken\n\
         : taken, replies \n\
         \x20ram \n\
         \x20eeprom \n\
-        the table has more than 16384 bytes\n";
-    say(cases::line(words, n));
+        the table has more than 32768 bytes\n";
+    io::write_all(1, cases::line(words, n));
 }
 
 pub(crate) fn number(word: u32, n: u64) {

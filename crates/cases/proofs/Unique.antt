@@ -7,13 +7,8 @@ use denote.Ref.{now, ptr}
 use Rattle.terms.proofs.Answers.{OneAnswer, OneOutcome, both-fixed}
 use Rattle.cases.proofs.line.Kinds as line-kinds
 use Rattle.cases.proofs.line.Reads as line
-use Rattle.cases.proofs.line_end.Kinds as line-end-kinds
-use Rattle.cases.proofs.line_end.Reads as line-end
 use Rattle.cases.proofs.number.Kinds as number-kinds
 use Rattle.cases.proofs.number.Reads as number
-
-pub line-end-one : OneAnswer line-end-kinds.ps line-end-kinds.r line-end.Post
-line-end-one κs a r₁ r₂ e₁ e₂ p q = λ i. record { 0 = (p ∙ sym q) i }
 
 -- Of a line the bytes and the place are fixed; the name under which the bytes are tracked is no part of either.
 pub line-one : OneOutcome line-kinds.ps line-kinds.r line.Post {X = (ℕ × ℕ) × List ℕ} (λ κs r e. (ptr r, now r))

@@ -4,21 +4,6 @@ ghost use Prim.Native.Nat.{_≤_};
 ghost use lib.ListN.{drop};
 ghost use denote.Ref.{ptr};
 ghost use Rattle.cases.specs.Cases.{lineEnd, nextLine, lineStart, lineBytes, linePlace, begin, behind, startsWithDigit, grown, valueFrom, number};
-use units::Bytes;
-
-// Where the line ends that a place stands in: at the next newline, or with the text. A place past the text's end is its own line's end.
-pub fn line_end(text: &[u8], from: Bytes) -> Bytes
-    ensures { λ r. ⌜ r .0 ≡ lineEnd (now (text .entry)) (from .0) ⌝ }
-{
-    let mut at = from.0;
-    while at < text.len() {
-        if text[at] == b'\n' {
-            return Bytes(at);
-        }
-        at += 1;
-    }
-    Bytes(at)
-}
 
 // Line n of a text, counted from 0, as a part of it. Past the last line it is empty.
 pub fn line<'a>(text: &'a [u8], n: u32) -> &'a [u8]
@@ -26,7 +11,7 @@ pub fn line<'a>(text: &'a [u8], n: u32) -> &'a [u8]
     ensures { λ r. ⌜ ptr r ≡ linePlace (ptr (text .entry)) (now (text .entry)) n ⌝ }
 {
     let start = line_start(text, n);
-    let end = line_end(text, Bytes(start)).0;
+    let end = line_end(text, start);
     &text[start..end]
 }
 
@@ -47,16 +32,29 @@ fn line_start(text: &[u8], n: u32) -> usize
 fn next_line(text: &[u8], from: usize) -> usize
     ensures { λ r. ⌜ r ≡ nextLine (now (text .entry)) from ⌝ }
 {
-    let end = line_end(text, Bytes(from)).0;
+    let end = line_end(text, from);
     if text.len() <= end {
         return text.len();
     }
     end + 1
 }
 
+// Where the line ends that a place stands in: at the next newline, or with the text. A place past the text's end is its own line's end.
+fn line_end(text: &[u8], from: usize) -> usize
+    ensures { λ r. ⌜ r ≡ lineEnd (now (text .entry)) from ⌝ }
+{
+    let mut at = from;
+    while at < text.len() {
+        if text[at] == b'\n' {
+            return at;
+        }
+        at += 1;
+    }
+    at
+}
+
 // The number right behind the words, where they stand for the first time at a line's start or behind a space with a digit behind them;
-// `otherwise` where they do not. One
-// that does not fit 64 bits is the largest that does.
+// `otherwise` where they do not. One that does not fit 64 bits is the largest that does.
 pub fn number(line: &[u8], words: &[u8], otherwise: u64) -> u64
     ensures { λ r. ⌜ r ≡ number (now (line .entry)) (now (words .entry)) otherwise ⌝ }
 {

@@ -1,5 +1,4 @@
 // What a case says. It is a load of S by command 1, with the figures of 01's program, but for what its line says.
-use crate::print;
 use crate::stepped;
 use crate::whole;
 use eeprom::Fault;
@@ -49,7 +48,7 @@ pub(crate) const UNSAID: u32 = u32::MAX;
 
 // A case with a pulse, or with a byte that is sent as another, is stepped.
 pub(crate) fn run(line: &[u8]) {
-    print::say(line);
+    io::write_all(1, line);
     if says(line, PULSE) {
         return stepped::case(line);
     }

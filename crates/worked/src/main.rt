@@ -2,7 +2,6 @@
 // A line of it that starts with `#` is a comment, one that is indented by two spaces is a case, printed with what came of it, and any other
 // is a heading, printed as it is.
 mod case;
-mod lines;
 mod print;
 mod sample;
 mod stepped;
@@ -10,22 +9,24 @@ mod whole;
 
 fn main() {
     // One byte more than a table may have, so that a longer one is seen to be too long.
-    let mut table = [0u8; 16_385];
+    let mut table = [0u8; 32_769];
     let n = io::read_full(0, &mut table);
-    if n < 16_385 {
+    if n < 32_769 {
         play(&table[..n]);
     } else {
         print::word(print::TOO_LONG);
-        print::end();
+        io::write_all(1, b"\n");
     }
 }
 
+// No table has more lines than bytes. An empty line ends it.
 fn play(table: &[u8]) {
-    let mut from = 0;
-    while from < table.len() {
-        let end = lines::end(table, from);
-        line(&table[from..end]);
-        from = end + 1;
+    for n in 0..32_768 {
+        let line = cases::line(table, n);
+        if line.len() == 0 {
+            return;
+        }
+        self::line(line);
     }
 }
 

@@ -33,17 +33,9 @@ const OFF: u32 = 12;
 
 pub(crate) const TOO_LONG: u32 = 13;
 
-pub(crate) fn say(words: &[u8]) {
-    io::write_all(1, words);
-}
-
 pub(crate) fn heading(line: &[u8]) {
-    say(line);
-    end();
-}
-
-pub(crate) fn end() {
-    say(b"\n");
+    io::write_all(1, line);
+    io::write_all(1, b"\n");
 }
 
 pub(crate) fn word(n: u32) {
@@ -60,8 +52,8 @@ pub(crate) fn word(n: u32) {
         \x20chip booted\n\
         \x20chip shut\n\
         \x20chip off\n\
-        the table has more than 16384 bytes\n";
-    say(cases::line(words, n));
+        the table has more than 32768 bytes\n";
+    io::write_all(1, cases::line(words, n));
 }
 
 pub(crate) fn number(word: u32, n: u64) {
@@ -108,5 +100,5 @@ pub(crate) fn chip(end: ChipEnd) {
 pub(crate) fn sums(ram: &[u8], eeprom: &[u8]) {
     number(RAM, lent::total(ram));
     number(EEPROM, lent::total(eeprom));
-    end();
+    io::write_all(1, b"\n");
 }

@@ -7,24 +7,34 @@ use Rattle.bounds.proofs.line.Statement.{statement}
 use Rattle.bounds.proofs.line.Tie as tie
 
 bar-requires : tie.Need-bar-requires
-bar-requires c κs = search needs
+bar-requires c κs = tt
 
-slice-aggregate-say : tie.Need-slice-aggregate-say
-slice-aggregate-say c = sym (length-take-le _ _ (c .before .bar .ensures))
+slice-aggregate-write-all : tie.Need-slice-aggregate-write-all
+slice-aggregate-write-all c = sym (length-take-le _ _ (c .before .bar .ensures))
 
-say-requires : tie.Need-say-requires
-say-requires c κs = search needs
+write-all-requires : tie.Need-write-all-requires
+write-all-requires c κs = tt
 
 step-requires : tie.Need-step-requires
-step-requires c κs = search needs
+step-requires c κs = tt
 
-end-requires : tie.Need-end-requires
-end-requires c κs = search needs
+slice-aggregate-write-all-2 : tie.Need-slice-aggregate-write-all-2
+slice-aggregate-write-all-2 c = search needs
+
+write-all-requires-2 : tie.Need-write-all-requires-2
+write-all-requires-2 c κs = tt
 
 returns : tie.Need-returns
-returns c = search needs
+returns c = tt
 
 pub line-spec : {M : Type 1} → statement M
 line-spec =
     tie.close
-    (tie.spec bar-requires slice-aggregate-say say-requires step-requires end-requires returns)
+    (tie.spec
+    bar-requires
+    slice-aggregate-write-all
+    write-all-requires
+    step-requires
+    slice-aggregate-write-all-2
+    write-all-requires-2
+    returns)

@@ -16,10 +16,10 @@ line-start-requires c κs = search needs
 line-end-requires : tie.Need-line-end-requires
 line-end-requires c κs = search needs
 
-behind : (c : tie.After-line-end) → c .before .line-start .result ≤ c .line-end .result .0
+behind : (c : tie.After-line-end) → c .before .line-start .result ≤ c .line-end .result
 behind c = rw (c .line-end .ensures) (end-behind (c .before .before .before .args .text .now) (c .before .line-start .result))
 
-within : (c : tie.After-line-end) → c .line-end .result .0 ≤ length (c .before .before .before .args .text .now)
+within : (c : tie.After-line-end) → c .line-end .result ≤ length (c .before .before .before .args .text .now)
 within c =
     let text = c .before .before .before .args .text .now in
     let start = c .before .line-start in

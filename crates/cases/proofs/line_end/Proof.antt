@@ -1,4 +1,4 @@
--- `cases::line_end`: the line ends, seen from each place that is reached, where it ends from the first.
+-- `line_end`: the line ends, seen from each place that is reached, where it ends from the first.
 -- Assumes nothing.
 use mathlib.Core.Path.{_≡_, refl, _∙_}
 use Prim.Native.Nat.{_-_}
@@ -11,10 +11,10 @@ use Rattle.cases.proofs.line_end.Statement.{statement}
 use Rattle.cases.proofs.line_end.Tie as tie
 
 abbrev Inv-loop : tie.InvT-loop
-Inv-loop text at₀ at = lineEnd text at ≡ lineEnd text at₀
+Inv-loop text from at₀ at = lineEnd text at ≡ lineEnd text from
 
 abbrev μ-loop : tie.MeasureT-loop
-μ-loop text at₀ at = length text - at
+μ-loop text from at₀ at = length text - at
 
 loop-holds : tie.Need-loop-holds Inv-loop μ-loop
 loop-holds c = refl

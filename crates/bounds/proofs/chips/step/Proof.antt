@@ -13,10 +13,10 @@ array-write-eeprom-2 : tie.Need-array-write-eeprom-2
 array-write-eeprom-2 c = search needs
 
 size-requires : tie.Need-size-requires
-size-requires c κs = search needs
+size-requires c κs = tt
 
 size-requires-2 : tie.Need-size-requires-2
-size-requires-2 c κs = search needs
+size-requires-2 c κs = tt
 
 array-borrow-prefix-ram : tie.Need-array-borrow-prefix-ram
 array-borrow-prefix-ram c = search needs
@@ -31,10 +31,10 @@ slice-aggregate-pulse-2 : tie.Need-slice-aggregate-pulse-2
 slice-aggregate-pulse-2 c = sym (length-take-le _ _ (array-borrow-prefix-eeprom (c .before)))
 
 pulse-requires : tie.Need-pulse-requires
-pulse-requires c κs = search needs
+pulse-requires c κs = tt
 
 returns : tie.Need-returns
-returns c = search needs
+returns c = tt
 
 pub step-spec : {M : Type 1} → statement M
 step-spec =

@@ -7,10 +7,10 @@ use Rattle.bounds.proofs.hosts.step_host.Statement.{statement}
 use Rattle.bounds.proofs.hosts.step_host.Tie as tie
 
 host-requires : tie.Need-host-requires
-host-requires c κs = search needs
+host-requires c κs = tt
 
 lent-requires : tie.Need-lent-requires
-lent-requires c κs = search needs
+lent-requires c κs = tt
 
 array-share-prefix-zeros : tie.Need-array-share-prefix-zeros
 array-share-prefix-zeros c = search needs
@@ -19,7 +19,7 @@ slice-aggregate-step : tie.Need-slice-aggregate-step
 slice-aggregate-step c = sym (length-take-le _ _ (array-share-prefix-zeros (c .before)))
 
 step-requires : tie.Need-step-requires
-step-requires c κs = search needs
+step-requires c κs = tt
 
 enum-known-n : tie.Need-enum-known-n
 enum-known-n c = search needs
@@ -28,19 +28,19 @@ cast-number : tie.Need-cast-number
 cast-number c = search needs
 
 number-requires : tie.Need-number-requires
-number-requires c κs = search needs
+number-requires c κs = tt
 
 enum-told : tie.Need-enum-told
 enum-told c = search needs
 
 word-requires : tie.Need-word-requires
-word-requires c κs = search needs
+word-requires c κs = tt
 
 returns : tie.Need-returns
-returns c = search needs
+returns c = tt
 
 returns-2 : tie.Need-returns-2
-returns-2 c = search needs
+returns-2 c = tt
 
 pub step-host-spec : {M : Type 1} → statement M
 step-host-spec =
