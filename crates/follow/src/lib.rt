@@ -15,6 +15,24 @@ pub fn next(place: Place, load: Load, seen: Seen) -> Place
 {
     let phase = place.phase;
     let index = place.index;
+    match phase {
+        Phase::Calibration => following::onward(load, phase, index),
+        Phase::Handshake => following::onward(load, phase, index),
+        Phase::Connection => of_pair(load, phase, index, seen),
+        Phase::Version(_) => of_pair(load, phase, index, seen),
+        Phase::Command => following::onward(load, phase, index),
+        Phase::Zeros => following::onward(load, phase, index),
+        Phase::Size => following::onward(load, phase, index),
+        Phase::Image => following::onward(load, phase, index),
+        Phase::Wait(_) => of_pair(load, phase, index, seen),
+        Phase::Ended(_) => following::onward(load, phase, index),
+    }
+}
+
+// A pulse of a pair: what was seen counts at the second.
+fn of_pair(load: Load, phase: Phase, index: u32, seen: Seen) -> Place
+    ensures { λ r. ⌜ r ≡ next load phase index seen ⌝ }
+{
     if bits::pair_bit(index) {
         return following::onward(load, phase, index);
     }

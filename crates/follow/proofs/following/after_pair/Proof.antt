@@ -5,8 +5,9 @@ use Prim.Native.Nat.{ℕ}
 use Rattle.load.specs.declared.Load.{Load}
 use Rattle.units.specs.declared.Seen.{Seen}
 use Rattle.place.specs.declared.Place.{Place}
-use Rattle.follow.specs.Follow.{onward, afterPair}
+use Rattle.follow.specs.Follow.{afterPair}
 use Rattle.place.specs.declared.Phase.{Phase}
+use Rattle.follow.proofs.Unseen.{unseen-pair}
 use borrow.Author.Needs.{needs}
 use Rattle.follow.proofs.following.after_pair.Statement.{statement}
 use Rattle.follow.proofs.following.after_pair.Tie as tie
@@ -14,10 +15,6 @@ use Rattle.follow.proofs.following.after_pair.Tie as tie
 module _ (load : Load) (i : ℕ) (seen : Seen) {r : Place} {p q : Phase} (e : p ≡ q) where
   by-phase : r ≡ afterPair load q i seen → r ≡ afterPair load p i seen
   by-phase h = rw e h
-
-  -- A phase in which what is seen does not count.
-  plain : onward load q i ≡ afterPair load q i seen → r ≡ onward load p i → r ≡ afterPair load p i seen
-  plain h k = rw (e, ← h, ← e) k
 
 enum-told : tie.Need-enum-told
 enum-told c = search needs
@@ -80,10 +77,10 @@ onward-requires-7 : tie.Need-onward-requires-7
 onward-requires-7 c κs = search needs
 
 returns : tie.Need-returns
-returns c = search plain
+returns c = search unseen-pair
 
 returns-2 : tie.Need-returns-2
-returns-2 c = search plain
+returns-2 c = search unseen-pair
 
 returns-3 : tie.Need-returns-3
 returns-3 c = search by-phase
@@ -92,22 +89,22 @@ returns-4 : tie.Need-returns-4
 returns-4 c = search by-phase
 
 returns-5 : tie.Need-returns-5
-returns-5 c = search plain
+returns-5 c = search unseen-pair
 
 returns-6 : tie.Need-returns-6
-returns-6 c = search plain
+returns-6 c = search unseen-pair
 
 returns-7 : tie.Need-returns-7
-returns-7 c = search plain
+returns-7 c = search unseen-pair
 
 returns-8 : tie.Need-returns-8
-returns-8 c = search plain
+returns-8 c = search unseen-pair
 
 returns-9 : tie.Need-returns-9
 returns-9 c = search by-phase
 
 returns-10 : tie.Need-returns-10
-returns-10 c = search plain
+returns-10 c = search unseen-pair
 
 pub after-pair-spec : {M : Type 1} → statement M
 after-pair-spec =

@@ -1,10 +1,10 @@
--- `is_outside` tests the phase, then the index.
+-- `lacks` tests the phase, then the index.
 -- Assumes nothing.
 use Rattle.terms.proofs.Refusals.{walk}
 use Rattle.range.specs.Ranges.{placeOutside}
 use borrow.Author.Needs.{needs}
-use Rattle.range.proofs.is_outside.Statement.{statement}
-use Rattle.range.proofs.is_outside.Tie as tie
+use Rattle.range.proofs.lacks.Statement.{statement}
+use Rattle.range.proofs.lacks.Tie as tie
 
 command-requires : tie.Need-command-requires
 command-requires c κs = search needs
@@ -18,7 +18,7 @@ places-requires c κs = search needs
 
 returns-2 : tie.Need-returns-2
 unfolding placeOutside
-returns-2 c = rw (← (c .before .before .before .before .command .ensures), ← (c .before .places .ensures)) (search walk depth 12)
+returns-2 c = rw (← (c .before .before .before .command .ensures), ← (c .places .ensures)) (search walk depth 12)
 
-pub is-outside-spec : {M : Type 1} → statement M
-is-outside-spec = tie.close (tie.spec command-requires returns places-requires returns-2)
+pub lacks-spec : {M : Type 1} → statement M
+lacks-spec = tie.close (tie.spec command-requires returns places-requires returns-2)
