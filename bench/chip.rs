@@ -62,12 +62,14 @@ pub struct Chip {
     command: u32,
     size: u32,
     pub phase: Phase,
+    left: u32,
 }
 
 pub const MEMORY: usize = 32_768;
 const PAGE: usize = 64;
 const PAGES: u32 = 512;
-const LAST_TIMELY: u32 = 249_999;
+const FIRST_BUDGET: u32 = 375_000;
+const BUDGET: u32 = 250_000;
 const FLAGS: u32 = 0xFFF9_FFFF;
 
 const STATES: [u8; 255] = states();
@@ -162,17 +164,33 @@ impl Chip {
         if fault.outside() {
             return Err(12);
         }
-        Ok(Chip { fault, threshold: 0, command: 0, size: 0, phase: Phase::First })
+        Ok(Chip { fault, threshold: 0, command: 0, size: 0, phase: Phase::First, left: FIRST_BUDGET })
+    }
+
+    // A phase at whose start the countdown is set again.
+    fn begin(&mut self, phase: Phase) {
+        self.phase = phase;
+        self.left = BUDGET;
+    }
+
+    fn most_left(&self) -> u32 {
+        match self.phase {
+            Phase::First | Phase::Handshake(_) | Phase::Ended(_) => FIRST_BUDGET,
+            Phase::Second(first) => FIRST_BUDGET.saturating_sub(first),
+            _ => BUDGET,
+        }
     }
 
     fn outside(&self) -> bool {
         self.fault.outside()
-            || self.threshold > LAST_TIMELY
+            || self.left == 0
+            || self.left > self.most_left()
+            || self.threshold > 187_499
             || self.command > 3
             || self.size > 8_192
             || match self.phase {
                 Phase::First => false,
-                Phase::Second(first) => first > LAST_TIMELY,
+                Phase::Second(first) => first >= FIRST_BUDGET,
                 Phase::Handshake(k) => k == 0 || k > 250,
                 Phase::Answer(reply) | Phase::Rest(reply) => reply.outside(self.command),
                 Phase::Command(bits, _) => bits > 31,
@@ -197,10 +215,11 @@ impl Chip {
         if let Phase::Ended(_) = self.phase {
             return Err(14);
         }
-        if wait > LAST_TIMELY || low > LAST_TIMELY {
+        if self.left <= wait || self.left - wait <= low {
             self.time_out(ram, eeprom);
             return Ok((self, Seen::Silence));
         }
+        self.left -= wait + low;
         let seen = self.hear(ram, eeprom, low);
         Ok((self, seen))
     }
@@ -208,9 +227,9 @@ impl Chip {
     fn time_out(&mut self, ram: &mut [u8], eeprom: &[u8]) {
         match self.phase {
             Phase::Answer(reply) | Phase::Rest(reply) => {
-                self.phase = match reply {
-                    Reply::Acknowledging(Acknowledgement::Programmed | Acknowledgement::Verified) => Phase::Align(Acknowledgement::Failed),
-                    _ => Phase::Ended(Ending::Shut),
+                match reply {
+                    Reply::Acknowledging(Acknowledgement::Programmed | Acknowledgement::Verified) => self.begin(Phase::Align(Acknowledgement::Failed)),
+                    _ => self.phase = Phase::Ended(Ending::Shut),
                 }
             }
             _ => self.boot(ram, eeprom),
@@ -231,15 +250,15 @@ impl Chip {
                 } else if k < 250 {
                     self.phase = Phase::Handshake(k + 1);
                 } else {
-                    self.phase = Phase::Answer(Reply::Connection(0));
+                    self.begin(Phase::Answer(Reply::Connection(0)));
                 }
             }
             Phase::Answer(reply) => {
                 self.phase = Phase::Rest(reply);
                 return reply.seen();
             }
-            Phase::Rest(Reply::Connection(k)) if k < 257 => self.phase = Phase::Answer(Reply::Connection(k + 1)),
-            Phase::Rest(Reply::Connection(_)) => self.phase = Phase::Command(0, 0),
+            Phase::Rest(Reply::Connection(k)) if k < 257 => self.begin(Phase::Answer(Reply::Connection(k + 1))),
+            Phase::Rest(Reply::Connection(_)) => self.begin(Phase::Command(0, 0)),
             Phase::Rest(Reply::Acknowledging(acknowledgement)) => self.acknowledged(acknowledgement, ram, eeprom),
             Phase::Command(bits, so_far) if bits < 31 => self.phase = Phase::Command(bits + 1, grown(so_far, bit)),
             Phase::Command(_, so_far) => self.received_command(grown(so_far, bit)),
@@ -249,7 +268,7 @@ impl Chip {
             Phase::Long(_, k, so_far) => self.received_long(k, grown(so_far, bit), ram),
             Phase::Align(acknowledgement) => {
                 if !bit {
-                    self.phase = Phase::Answer(Reply::Acknowledging(acknowledgement));
+                    self.begin(Phase::Answer(Reply::Acknowledging(acknowledgement)));
                 }
             }
             Phase::Ended(_) => {}
@@ -262,7 +281,7 @@ impl Chip {
             self.phase = Phase::Ended(Ending::Shut);
         } else {
             self.command = command;
-            self.phase = Phase::Size(0, 0);
+            self.begin(Phase::Size(0, 0));
         }
     }
 
@@ -271,30 +290,30 @@ impl Chip {
             self.phase = Phase::Ended(Ending::Off);
         } else {
             self.size = size;
-            self.phase = Phase::Long(0, 0, 0);
+            self.begin(Phase::Long(0, 0, 0));
         }
     }
 
     fn received_long(&mut self, k: u32, long: u32, ram: &mut [u8]) {
         let at = k as usize * 4;
         store(ram, at, long);
-        self.phase = if k + 1 < self.size {
+        self.begin(if k + 1 < self.size {
             Phase::Long(0, k + 1, 0)
         } else if finish(ram, at + 4) {
             Phase::Align(Acknowledgement::Stored)
         } else {
             Phase::Align(Acknowledgement::Failed)
-        };
+        });
     }
 
     fn acknowledged(&mut self, acknowledgement: Acknowledgement, ram: &mut [u8], eeprom: &mut [u8]) {
-        self.phase = match acknowledgement {
-            Acknowledgement::Stored if self.command == 1 => launch(ram, Ending::Launched),
-            Acknowledgement::Stored if self.program(ram, eeprom) => Phase::Align(Acknowledgement::Programmed),
-            Acknowledgement::Programmed if self.verify(ram, eeprom) => Phase::Align(Acknowledgement::Verified),
-            Acknowledgement::Stored | Acknowledgement::Programmed => Phase::Align(Acknowledgement::Failed),
-            Acknowledgement::Verified if self.command == 3 => launch(ram, Ending::Launched),
-            Acknowledgement::Verified | Acknowledgement::Failed => Phase::Ended(Ending::Shut),
+        match acknowledgement {
+            Acknowledgement::Stored if self.command == 1 => self.phase = launch(ram, Ending::Launched),
+            Acknowledgement::Stored if self.program(ram, eeprom) => self.begin(Phase::Align(Acknowledgement::Programmed)),
+            Acknowledgement::Programmed if self.verify(ram, eeprom) => self.begin(Phase::Align(Acknowledgement::Verified)),
+            Acknowledgement::Stored | Acknowledgement::Programmed => self.begin(Phase::Align(Acknowledgement::Failed)),
+            Acknowledgement::Verified if self.command == 3 => self.phase = launch(ram, Ending::Launched),
+            Acknowledgement::Verified | Acknowledgement::Failed => self.phase = Phase::Ended(Ending::Shut),
         }
     }
 

@@ -105,6 +105,11 @@ fn sum(image: &[u8]) -> u8 {
     image.iter().fold(0, |sum: u8, byte| sum.wrapping_add(*byte))
 }
 
+// Calibration and handshake can outlast a chip's first countdown.
+fn slow(t: u32, h: u32, p: u32) -> bool {
+    252 * (2 * t as u64 + h as u64) * 1_000 + 504 * (400_000 + p as u64) > 150_000_000_000
+}
+
 fn bad_length(length: usize) -> bool {
     length < 16 || length > 32_760 || length % 4 != 0
 }
@@ -249,6 +254,9 @@ impl Host {
         if !(1_000..=1_000_000).contains(&p) {
             return Err(3);
         }
+        if slow(t, h, p) {
+            return Err(16);
+        }
         Ok(Host {
             t,
             h,
@@ -266,6 +274,7 @@ impl Host {
         if !(4_300..=26_000).contains(&self.t)
             || !(4_300..=90_000_000).contains(&self.h)
             || !(1_000..=1_000_000).contains(&self.p)
+            || slow(self.t, self.h, self.p)
             || self.load.outside()
         {
             return true;

@@ -45,6 +45,7 @@ fn chip(line: &[u8]) -> Chip {
         fault: fault(line),
         receiver: Receiver {
             listener: listener(line),
+            left: Loops(small(line, words::LEFT, 250_000)),
         },
     }
 }

@@ -47,8 +47,10 @@ pub(crate) const HOST: u32 = 21;
 
 pub(crate) const SERIAL: u32 = 22;
 
+pub(crate) const LEFT: u32 = 23;
+
 // The first number of a case, whatever is before it.
-pub(crate) const FIRST: u32 = 23;
+pub(crate) const FIRST: u32 = 24;
 
 const UNSAID: u64 = u64::MAX;
 
@@ -76,6 +78,7 @@ pub(crate) fn number(line: &[u8], word: u32, otherwise: u64) -> u64 {
         long \n\
         host in \n\
         serial in \n\
+        left \n\
         \n";
     cases::number(line, cases::line(words, word), otherwise)
 }

@@ -12,7 +12,7 @@ use Rattle.host.specs.Time.{low, spacer}
 use Rattle.lent.specs.Bytes.{wordAt, total}
 use Rattle.load.specs.Image.{badLength, otherLength, otherStart, badStack, otherSum}
 use Rattle.load.specs.Load.{loadOutside}
-use Rattle.settings.specs.Settings.{outside, settingsOutside}
+use Rattle.settings.specs.Settings.{outside, slow, settingsOutside}
 use Rattle.ram.specs.Ram.{flagged, flaggedBelow}
 use Rattle.ram.proofs.Stored.{flags-of-0, flags-of-4}
 use Rattle.follow.specs.Follow.{onward, next}
@@ -24,7 +24,7 @@ use Rattle.checks.specs.Sample.{sample}
 use Rattle.checks.specs.Table.{startEdges, Checks}
 
 pub edges : startEdges 3 sample (hostStart 8600 8600 700000 1 sample) ≡ 0 ∷ 12 ∷ 24 ∷ 49 ∷ 61 ∷ 86 ∷ []
-unfolding when either wordAt total outside settingsOutside badLength otherLength otherStart badStack otherSum loadOutside onward next placeOutside sessionOutside otherImage low spacer late hostOutside hostStart hostStep draw state sample
+unfolding when either wordAt total outside slow settingsOutside badLength otherLength otherStart badStack otherSum loadOutside onward next placeOutside sessionOutside otherImage low spacer late hostOutside hostStart hostStep draw state sample
 edges = refl
 
 pub checks : Checks

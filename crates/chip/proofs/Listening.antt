@@ -1,9 +1,9 @@
--- The fresh listener is within its ranges, and each pulse keeps it there, whether the work that it calls for goes well or not: by the
+-- The fresh receiver is within its ranges, and each pulse keeps it there, whether the work that it calls for goes well or not: by the
 -- phases in their order, `heard-settles` for a timely pulse and `late-settles` for a time-out.
 -- Assumes nothing.
 use mathlib.Core.Bool.{Bool, true, false}
-use mathlib.Core.Path.{_≡_, refl}
-use Prim.Native.Nat.{ℕ, _+_, _<_, _≤_}
+use mathlib.Core.Path.{_≡_, refl, subst}
+use Prim.Native.Nat.{ℕ, _+_, _-_, _<_, _≤_}
 use native.Mathlib.Omega.{arith}
 use lib.Dec.{ltb}
 use borrow.Author.Tests.{ltb-true, eqb-false, lt-leb, ne-eqb, leb-false}
@@ -24,16 +24,25 @@ use Rattle.listener.specs.Heard.{receivedCommand, receivedSize, receivedLong, r
 use Rattle.listener.specs.Settled.{failed, settled}
 use Rattle.receiver.specs.Hears.{hears}
 use Rattle.receiver.specs.Hears as receiver
-use Rattle.receiver.specs.Late.{late, lateAcknowledgement, lateReply, afterLate}
+use Rattle.countdown.specs.Countdown.{late, counting, mostLeft}
+use Rattle.receiver.specs.Late.{lateAcknowledgement, lateReply, afterLate}
+use Rattle.receiver.proofs.Going.{Then, heard-then, late-then, settled-goes, settled-counts}
+use Rattle.receiver.proofs.Left.{May, left-kept}
 use Rattle.receiver.specs.declared.Received.{Received}
 use Rattle.receiver.specs.declared.Receiver.{Receiver}
 use Rattle.line.specs.Reading.{thresholdOf, reads, grown}
 use Rattle.listener.specs.declared.Heard.{Heard}
 use Rattle.listener.specs.declared.Listener.{Listener}
-use Rattle.chip.proofs.Within.{Within}
+use Rattle.chip.proofs.Within.{Within, Timed}
 
-pub fresh-within : Within (record { threshold = record { 0 = 0 }; command = 0; size = record { 0 = 0 }; phase = First })
+fresh-within : Within (record { threshold = record { 0 = 0 }; command = 0; size = record { 0 = 0 }; phase = First })
 fresh-within = record { timely = omega arith; known = omega arith; short = omega arith; had = refl }
+
+pub fresh-timed : Timed (record {
+  listener = record { threshold = record { 0 = 0 }; command = 0; size = record { 0 = 0 }; phase = First };
+  left = record { 0 = 375000 };
+})
+fresh-timed = record { within = fresh-within; left = (omega arith, omega arith) }
 
 -- A pulse leads within the ranges, whether its work goes well or not.
 pub record Settles (h : Heard) : Type 0 where
@@ -230,26 +239,25 @@ module _ (l : Listener) (w : Within l) where
   unfolding aligned
   aligned-settles a bit h = tested (λ e. goes-on (Align a) h) (λ e. goes-on (Answer (Acknowledging a)) h)
 
-  -- A timely low is at most 249,999, and so is the threshold of two of them.
-  module _ (low : ℕ) (timely : low ≤ 249999) (bit : Bool) where
-    heard-settles : (p : Phase) → Had p → Settles (heard l p low bit)
-    heard-settles First h = goes-on (Second (record { 0 = low })) (less-false 249999 low .1 timely)
-    heard-settles (Second d) h =
-        let first = less-false 249999 (d .0) .0 h in
+  -- A timely low is below what is left: so the first is at most 374,999, and both together are.
+  module _ (low left : ℕ) (timely : low < left) (bit : Bool) where
+    heard-settles : (p : Phase) → left ≤ mostLeft p → Had p → Settles (heard l p low bit)
+    heard-settles First m h = goes-on (Second (record { 0 = low })) (less-false 374999 low .1 (omega (arith, timely, m)))
+    heard-settles (Second d) m h =
         quiet-settles (withThreshold l (thresholdOf (d .0) low)) (Handshake 1) (record {
-          timely = omega arith;
+          timely = omega (arith, timely, m);
           known = w .known;
           short = w .short;
           had = draw-had 1 (omega arith) (omega arith);
         })
-    heard-settles (Handshake k) h = compared-settles k bit
-    heard-settles (Answer r) h = record { well = moved (Rest r) h; badly = moved (Rest r) h }
-    heard-settles (Rest r) h = replied-settles r h
-    heard-settles (Command n bits) h = command-read n (grown bits bit)
-    heard-settles (Size n bits) h = size-read n (grown bits bit) h
-    heard-settles (Long n k bits) h = long-read k n (grown bits bit) h
-    heard-settles (Align a) h = aligned-settles a bit h
-    heard-settles (Ended e) h = goes-on (Ended e) h
+    heard-settles (Handshake k) m h = compared-settles k bit
+    heard-settles (Answer r) m h = record { well = moved (Rest r) h; badly = moved (Rest r) h }
+    heard-settles (Rest r) m h = replied-settles r h
+    heard-settles (Command n bits) m h = command-read n (grown bits bit)
+    heard-settles (Size n bits) m h = size-read n (grown bits bit) h
+    heard-settles (Long n k bits) m h = long-read k n (grown bits bit) h
+    heard-settles (Align a) m h = aligned-settles a bit h
+    heard-settles (Ended e) m h = goes-on (Ended e) h
 
   late-acknowledgement-had : (a : Acknowledgement) → Had (Align a) → Had (lateAcknowledgement a)
   late-acknowledgement-had Stored h = shut-had
@@ -273,16 +281,35 @@ module _ (l : Listener) (w : Within l) where
   late-settles (Align a) h = booting-settles
   late-settles (Ended e) h = goes-on (Ended e) h
 
-pub hears-settles : (r : Receiver) (wait low : ℕ) → Within (r .listener) → Settles (hears r wait low .heard)
-unfolding hears late
-hears-settles r wait low w =
-    let l = r .listener in
-    when-elim (λ (x : Received). Settles (x .heard)) _ _ _
-    (λ e. late-settles l w (l .phase) (w .had))
-    (λ e.
-    let timely = less-false 249999 low .0 (either-false _ _ .0 e .1) in
-    heard-settles l w low timely (reads (l .threshold .0) low) (l .phase) (w .had))
+-- What is left, after what was heard and its work: by where the pulse leads.
+module _ (low : ℕ) (bit : Bool) (from : Phase) (h : Heard) (good : Bool) (goes : Then low bit from h) (left rest : ℕ) (some : 1 ≤ rest)
+    (drawn : rest + low ≤ left) (most : left ≤ mostLeft from) where
+  left-settled : May (mostLeft (settled h good .phase)) (counting from (h .listener .phase) rest)
+  left-settled =
+      subst (May (mostLeft (settled h good .phase))) (settled-counts low bit from h good goes rest)
+      (left-kept low bit left rest some drawn from (settled h good .phase) (settled-goes low bit from h good goes) most)
 
-pub step-within : (r : Receiver) (wait low : ℕ) (good : Bool) → Within (r .listener)
-    → Within (receiver.settled (hears r wait low) good .listener)
-step-within r wait low good w = settled-within (hears r wait low .heard) good (hears-settles r wait low w)
+pub step-timed : (r : Receiver) (wait low : ℕ) (good : Bool) → Timed r → Timed (receiver.settled (hears r wait low) good)
+unfolding hears late
+step-timed r wait low good t =
+    let l = r .listener in
+    let left = r .left .0 in
+    let some : 1 ≤ left = t .left .0 in
+    let most : left ≤ mostLeft (l .phase) = t .left .1 in
+    let bit = reads (l .threshold .0) low in
+    when-elim (λ (x : Received). Timed (receiver.settled x good)) _ _ _
+    (λ e. record {
+      within = settled-within (afterLate l (l .phase)) good (late-settles l (t .within) (l .phase) (t .within .had));
+      left =
+          left-settled 0 bit (l .phase) (afterLate l (l .phase)) good (late-then l 0 bit (l .phase)) left left some (omega arith) most;
+    })
+    (λ e.
+    let timely : wait + low < left = leb-false left (wait + low) e in
+    record {
+      within =
+          settled-within (heard l (l .phase) low bit) good
+          (heard-settles l (t .within) low left (omega (arith, timely)) bit (l .phase) most (t .within .had));
+      left =
+          left-settled low bit (l .phase) (heard l (l .phase) low bit) good (heard-then l low bit (l .phase)) left (left - wait - low)
+          (omega (arith, timely)) (omega (arith, timely)) most;
+    })

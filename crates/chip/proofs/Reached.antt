@@ -13,8 +13,8 @@ use Rattle.terms.proofs.Tests.{either-false, less-false}
 use Rattle.receiver.specs.Hears.{hears}
 use Rattle.listener.specs.declared.Event.{Event}
 use Rattle.listener.specs.declared.Event.the-variants.{Nothing, Store, Finish, Program, Verify, Launch, Boot}
-use Rattle.chip.proofs.Listening.{fresh-within, step-within}
-use Rattle.chip.proofs.Within.{Within, listener-within}
+use Rattle.chip.proofs.Listening.{fresh-timed, step-timed}
+use Rattle.chip.proofs.Within.{Timed, receiver-within}
 use Rattle.eeprom.specs.Eeprom.{faultOutside, after}
 use Rattle.eeprom.specs.declared.Fault.{Fault}
 use Rattle.eeprom.specs.declared.Fault.the-variants.{None, Accepts, Reads}
@@ -26,20 +26,20 @@ use Rattle.chip.proofs.Steps.{step-given, step-taken}
 
 pub record Kept (c : Chip) : Type 0 where
   pub sound : faultOutside (c .fault) ≡ false
-  pub within : Within (c .receiver .listener)
+  pub within : Timed (c .receiver)
 
 pub chip-kept : (c : Chip) → (chipOutside c ≡ false) ↔ Kept c
 unfolding chipOutside
 chip-kept c = (
-  (λ q. let parts = either-false _ _ .0 q in record { sound = parts .0; within = listener-within (c .receiver .listener) .0 (parts .1) }),
-  (λ k. either-false _ _ .1 (k .sound, listener-within (c .receiver .listener) .1 (k .within))),
+  (λ q. let parts = either-false _ _ .0 q in record { sound = parts .0; within = receiver-within (c .receiver) .0 (parts .1) }),
+  (λ k. either-false _ _ .1 (k .sound, receiver-within (c .receiver) .1 (k .within))),
 )
 
 start-keeps : (ram eeprom : List ℕ) (fault : Fault) (c : Chip) → chipStart ram eeprom fault ≡ taken c → Kept c
 unfolding chipStart
 start-keeps ram eeprom fault c e =
     let p = taken-exactly (fresh fault) c (startRows ram eeprom fault) .0 e in
-    subst Kept (sym (p .1)) (record { sound = p .0 .1 .1 .0; within = fresh-within })
+    subst Kept (sym (p .1)) (record { sound = p .0 .1 .1 .0; within = fresh-timed })
 
 -- Work leaves a fault within its range: fewer pages are left.
 after-sound : (fault : Fault) (pages : ℕ) → faultOutside fault ≡ false → faultOutside (after fault pages) ≡ false
@@ -66,7 +66,7 @@ step-keeps c ram eeprom wait low r ram′ eeprom′ e =
     let k = chip-kept c .0 (s .passed .1 .1 .0) in
     subst Kept (sym (s .chip-after)) (record {
       sound = done-sound (c .fault) (hears (c .receiver) wait low .heard .event) ram eeprom (k .sound);
-      within = step-within (c .receiver) wait low _ (k .within);
+      within = step-timed (c .receiver) wait low _ (k .within);
     })
 
 pub reached-kept : (c : Chip) → Reached c → Kept c

@@ -28,6 +28,7 @@ fresh fault = record {
   fault = fault;
   receiver = record {
     listener = record { threshold = record { 0 = 0 }; command = 0; size = record { 0 = 0 }; phase = First };
+    left = record { 0 = 375000 };
   };
 }
 

@@ -56,7 +56,7 @@ module _ (load : Load) (image : List ℕ) (threshold size : ℕ) (ram eeprom : L
 
   module _ (all : AllBytes image) (bytes : size * 4 ≡ length image) (pulses : places load at.Image ≡ size * 32) where
     sends-long : (k : ℕ) → k < size → Sends load image at.Image (k * 32) (long k)
-    sends-long k h = record { going = refl; bits = image-bit image all k; unseen = λ i. refl; fits = omega (arith, pulses, h) }
+    sends-long k h = record { going = refl; aloud = refl; bits = image-bit image all k; unseen = λ i. refl; fits = omega (arith, pulses, h) }
 
     long-leads : (k : ℕ) (place : Place) (phase : Phase) (event : Event) (ram′ : List ℕ) → k < size
         → onward load at.Image (k * 32 + 31) ≡ place

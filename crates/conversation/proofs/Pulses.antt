@@ -57,7 +57,7 @@ passed-well a place l event reply ram eeprom e = rw e refl
 
 module _ (load : Load) (image : List ℕ) where
   pub pulse : (a : Talk) (bit : Bool) (place : Place) (l : Listener) (event : Event) (reply : Seen) (ram eeprom : List ℕ)
-      → host.ended (a .place .phase) ≡ false → converses (a .listener .phase) ≡ true
+      → host.ended (a .place .phase) ≡ false → converses (a .place .phase) (a .listener .phase) ≡ true
       → bitOf load image a ≡ bit → placeAfter load a ≡ place → heardOf a 0 bit ≡ hearing l event reply
       → done None event (a .ram) (a .eeprom) ≡ worked (went true None) ram eeprom
       → Reach load image 1 a (talk place l ram eeprom reply)

@@ -18,15 +18,15 @@ use Rattle.conversation.proofs.Values.{Receives}
 module _ (l : Listener) where
   pub receives-command : Receives l Command (receivedCommand l)
   unfolding readCommand receivedCommand
-  receives-command = record { going = λ i v. refl; hears = λ i v bit. refl }
+  receives-command = record { going = λ at i v. refl; hears = λ i v bit. refl }
 
   pub receives-size : Receives l Size (receivedSize l)
   unfolding readSize receivedSize
-  receives-size = record { going = λ i v. refl; hears = λ i v bit. refl }
+  receives-size = record { going = λ at i v. refl; hears = λ i v bit. refl }
 
   pub receives-long : (k : Longs) → Receives l (λ (i v : ℕ). Long i k v) (receivedLong l k)
   unfolding readLong receivedLong
-  receives-long k = record { going = λ i v. refl; hears = λ i v bit. refl }
+  receives-long k = record { going = λ at i v. refl; hears = λ i v bit. refl }
 
   pub command-taken : (c : ℕ) → 1 ≤ c → c ≤ 3 → receivedCommand l c ≡ quiet (withCommand l c) (Size 0 0)
   unfolding receivedCommand

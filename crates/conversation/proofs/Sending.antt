@@ -30,14 +30,14 @@ use Rattle.conversation.proofs.Values.{Sends, value}
 module _ (load : Load) (image : List ℕ) where
   sends-command : Sends load image at.Command 0 (load .command)
   sends-command =
-      record { going = refl; bits = λ i h. ap (valueBit (load .command)) (zero-add i); unseen = λ i. refl; fits = omega arith }
+      record { going = refl; aloud = refl; bits = λ i h. ap (valueBit (load .command)) (zero-add i); unseen = λ i. refl; fits = omega arith }
 
   -- The longs of the load.
   abbrev size : ℕ
   size = longsIn (load .length .0)
 
   sends-size : Sends load image at.Size 0 size
-  sends-size = record { going = refl; bits = λ i h. ap (valueBit size) (zero-add i); unseen = λ i. refl; fits = omega arith }
+  sends-size = record { going = refl; aloud = refl; bits = λ i h. ap (valueBit size) (zero-add i); unseen = λ i. refl; fits = omega arith }
 
   module _ (threshold : ℕ) (ram eeprom : List ℕ) where
     -- The chip before the command, and after it.

@@ -1,7 +1,7 @@
 -- A value goes over low bit first, one law for the command, the size and each long: after i bits of it the chip holds them above the
 -- zeros of those to come, and after 32 the value.
 -- Assumes nothing.
-use mathlib.Core.Bool.{Bool, true, false}
+use mathlib.Core.Bool.{Bool, true, false, not}
 use mathlib.Core.List.{List}
 use mathlib.Core.Path.{_≡_, refl, sym, ap, _∙_, subst}
 use Prim.Native.Nat.{ℕ, suc, _+_, _-_, _*_, _^_, _/_, _%_, _<_, _≤_}
@@ -30,7 +30,7 @@ use Rattle.listener.specs.declared.Heard.{Heard}
 use Rattle.listener.specs.declared.Listener.{Listener}
 use Rattle.chip.specs.Work.{worked, went, done}
 use Rattle.history.proofs.Spelling.{grown-above}
-use Rattle.conversation.specs.Conversation.{Talk, Reach}
+use Rattle.conversation.specs.Conversation.{Talk, waits, Reach}
 use Rattle.conversation.proofs.Computed.{converses}
 use Rattle.conversation.proofs.Pulses.{talk, hearing, pulse, onward-within, next-single}
 use Rattle.conversation.proofs.Reaching.{andThen, rounds}
@@ -66,13 +66,14 @@ module _ (x i : ℕ) where
 -- The host sends a value from an index of a phase on, and heeds no reply to it.
 pub record Sends (load : Load) (image : List ℕ) (phase : host-phase.Phase) (from x : ℕ) : Type 0 where
   pub going : host.ended phase ≡ false
+  pub aloud : waits phase ≡ false
   pub bits : (i : ℕ) → i < 32 → sentBit load image phase (from + i) ≡ valueBit x i
   pub unseen : (i : ℕ) → afterPair load phase i Silence ≡ onward load phase i
   pub fits : from + 32 ≤ places load phase
 
 -- The chip reads 32 bits, and then has received a value.
 pub record Receives (l : Listener) (reading : ℕ → ℕ → Phase) (received : ℕ → Heard) : Type 0 where
-  pub going : (i v : ℕ) → converses (reading i v) ≡ true
+  pub going : (at : host-phase.Phase) (i v : ℕ) → converses at (reading i v) ≡ not (waits at)
   pub hears : (i v : ℕ) (bit : Bool) → heard (inPhase l (reading i v)) (reading i v) 0 bit
       ≡ when (ltb i 31) (quiet l (reading (i + 1) (grown v bit))) (received (grown v bit))
 
@@ -87,7 +88,7 @@ module _ (load : Load) (image : List ℕ) (phase : host-phase.Phase) (from x : �
       let index : from + i + 1 ≡ from + (i + 1) = omega arith in
       let zeros : 31 - i ≡ 32 - (i + 1) = omega arith in
       pulse load image (at i) (valueBit x i) _ (inPhase l (reading (i + 1) (held x (i + 1)))) Nothing Silence ram eeprom
-      (sends .going) (receives .going i (held x i)) (sends .bits i (omega arith))
+      (sends .going) (receives .going phase i (held x i) ∙ ap not (sends .aloud)) (sends .bits i (omega arith))
       (next-single load phase (from + i) Silence (sends .unseen (from + i)) ∙ onward-within load phase (from + i) more
       ∙ ap (λ (n : ℕ). record { phase = phase; index = n }) index)
       (receives .hears i (held x i) (valueBit x i)
@@ -110,7 +111,7 @@ module _ (load : Load) (image : List ℕ) (phase : host-phase.Phase) (from x : �
       subst (λ (a : Talk). Reach load image 32 a (talk place after ram′ eeprom′ Silence)) start
       (andThen (rounds 1 at 31 bit)
       (pulse load image (at 31) (valueBit x 31) place after event Silence ram′ eeprom′
-      (sends .going) (receives .going 31 (held x 31)) (sends .bits 31 (omega arith))
+      (sends .going) (receives .going phase 31 (held x 31) ∙ ap not (sends .aloud)) (sends .bits 31 (omega arith))
       (next-single load phase (from + 31) Silence (sends .unseen (from + 31)) ∙ p)
       (receives .hears 31 (held x 31) (valueBit x 31) ∙ when-false _ _ refl ∙ ap received whole ∙ r)
       w))

@@ -1,7 +1,7 @@
 -- 01, "Host joined to chip": the conversation of host and chip once the chip is calibrated, without time. The bit that is sent is the bit
 -- that is read, no time-out is met, and the EEPROM has no fault.
 -- Assumes nothing.
-use mathlib.Core.Bool.{Bool, false}
+use mathlib.Core.Bool.{Bool, true, false, not}
 use mathlib.Core.List.{List}
 use mathlib.Core.Path.{_≡_}
 use Prim.Native.Nat.{ℕ, _+_}
@@ -14,10 +14,12 @@ use Rattle.bits.specs.Bits.{sentBit}
 use Rattle.follow.specs.Follow.{opened, next}
 use Rattle.place.specs.Phases as host
 use Rattle.place.specs.declared.Ending.the-variants.{Done}
+use Rattle.place.specs.declared.Phase as place
 use Rattle.place.specs.declared.Phase.the-variants as at
 use Rattle.place.specs.declared.Place.{Place}
 use Rattle.eeprom.specs.declared.Fault.the-variants.{None}
 use Rattle.phases.specs.Phases as chip
+use Rattle.phases.specs.declared.Phase.{Phase}
 use Rattle.phases.specs.declared.Phase.the-variants as to
 use Rattle.listener.specs.Heard.{heard}
 use Rattle.listener.specs.Settled.{settled}
@@ -63,10 +65,37 @@ passed a place h = record {
 unfoldable pub talked : Load → List ℕ → Talk → Talk
 talked load image a = passed a (placeAfter load a) (heardOf a 0 (bitOf load image a))
 
--- Neither has ended, and the chip is calibrated: no low counts by its length.
+-- The host waits for an acknowledgement.
+abbrev pub waits : place.Phase → Bool
+waits at.Calibration = false
+waits at.Handshake = false
+waits at.Connection = false
+waits (at.Version v) = false
+waits at.Command = false
+waits at.Zeros = false
+waits at.Size = false
+waits at.Image = false
+waits (at.Wait a) = true
+waits (at.Ended e) = false
+
+-- Both stand in step: where the chip aligns the host waits, and where the chip reads a bit it doesn't.
+abbrev pub inStep : place.Phase → Phase → Bool
+inStep host to.First = not (waits host)
+inStep host (to.Second d) = not (waits host)
+inStep host (to.Handshake k) = not (waits host)
+inStep host (to.Answer r) = true
+inStep host (to.Rest r) = true
+inStep host (to.Command n bits) = not (waits host)
+inStep host (to.Size n bits) = not (waits host)
+inStep host (to.Long n k bits) = not (waits host)
+inStep host (to.Align a) = waits host
+inStep host (to.Ended e) = true
+
+-- Neither has ended, they stand in step, and the chip is calibrated: no low counts by its length.
 pub record Open (a : Talk) : Type 0 where
   pub host : host.ended (a .place .phase) ≡ false
   pub chip : chip.ended (a .listener .phase) ≡ false
+  pub in-step : inStep (a .place .phase) (a .listener .phase) ≡ true
   pub calibrated : (low : ℕ) (bit : Bool) → heardOf a low bit ≡ heardOf a 0 bit
 
 -- So many pulses lead from one to the other, and neither has ended before.

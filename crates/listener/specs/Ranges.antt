@@ -9,7 +9,7 @@ use Rattle.listener.specs.declared.Listener.{Listener}
 -- 13: some field lies outside its range: the threshold, the command, the size, or the phase.
 unfoldable pub listenerOutside : Listener → Bool
 listenerOutside l =
-    either (ltb 249999 (l .threshold .0))
+    either (ltb 187499 (l .threshold .0))
     (either (ltb 3 (l .command))
     (either (ltb 8192 (l .size .0))
     (phaseOutside (l .command) (l .size .0) (l .phase))))

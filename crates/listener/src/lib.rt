@@ -52,12 +52,15 @@ impl Listener {
         phase: Phase::First,
     };
 
+    // Half of two lows that together are no time-out.
+    pub const LARGEST_THRESHOLD: Loops = Loops(187_499);
+
     // Whether some field lies outside its range.
     pub fn is_outside(self) -> bool
         ensures { λ r. ⌜ r ≡ listenerOutside self ⌝ }
     {
         let phase = self.phase;
-        if Phase::LAST_TIMELY.0 < self.threshold.0 {
+        if Listener::LARGEST_THRESHOLD.0 < self.threshold.0 {
             return true;
         }
         if Phase::LARGEST_COMMAND < self.command {

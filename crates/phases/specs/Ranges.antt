@@ -50,7 +50,7 @@ longOutside command size k n = either (leb size k) (sizeOutside command n)
 -- A phase that a chip with this command and size does not have. A first low is no time-out.
 abbrev pub phaseOutside : ℕ → ℕ → Phase → Bool
 phaseOutside command size First = false
-phaseOutside command size (Second d) = ltb 249999 (d .0)
+phaseOutside command size (Second d) = ltb 374999 (d .0)
 phaseOutside command size (Handshake k) = drawOutside k
 phaseOutside command size (Answer r) = replyOutside command r
 phaseOutside command size (Rest r) = replyOutside command r

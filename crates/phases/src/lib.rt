@@ -53,8 +53,8 @@ pub enum ChipEnd {
 }
 
 impl Phase {
-    // The longest wait, or low, that is no time-out.
-    pub const LAST_TIMELY: Loops = Loops(249_999);
+    // The longest first low that is no time-out.
+    pub const LARGEST_FIRST_LOW: Loops = Loops(374_999);
 
     pub const LAST_DRAW: u32 = 250;
 
@@ -110,7 +110,7 @@ impl Phase {
     {
         match self {
             Phase::First => false,
-            Phase::Second(first) => Phase::LAST_TIMELY.0 < first.0,
+            Phase::Second(first) => Phase::LARGEST_FIRST_LOW.0 < first.0,
             Phase::Handshake(k) => is_no_draw(k),
             Phase::Answer(reply) => is_no_reply(command, reply),
             Phase::Rest(reply) => is_no_reply(command, reply),

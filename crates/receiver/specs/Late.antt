@@ -1,9 +1,5 @@
--- 01, "Time-outs".
+-- 01, "Time-outs": where they lead.
 -- Assumes nothing.
-use mathlib.Core.Bool.{Bool}
-use Prim.Native.Nat.{ℕ}
-use lib.Dec.{ltb}
-use Rattle.terms.specs.Choice.{either}
 use Rattle.listener.specs.Heard.{quiet, booting}
 use Rattle.phases.specs.declared.Acknowledgement.{Acknowledgement}
 use Rattle.phases.specs.declared.Acknowledgement.the-variants.{Stored, Programmed, Verified, Failed}
@@ -14,10 +10,6 @@ use Rattle.phases.specs.declared.Phase.{Phase}
 use Rattle.phases.specs.declared.Phase.the-variants.{First, Second, Handshake, Answer, Rest, Command, Size, Long, Align, Ended}
 use Rattle.phases.specs.declared.Reply.{Reply}
 use Rattle.phases.specs.declared.Reply.the-variants.{Connection, Acknowledging}
-
--- A wait of 250,000 loops or more, or a low of 250,000 or more; 249,999 is not. Each is judged alone, the wait first.
-unfoldable pub late : Listener → ℕ → ℕ → Bool
-late l wait low = either (ltb 249999 wait) (ltb 249999 low)
 
 -- Within a reply's two pulses: shut down; but where that reply was the 0 for programming or verification, the chip first aligns and
 -- replies 1.

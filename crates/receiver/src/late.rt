@@ -1,8 +1,8 @@
-// Time-outs, and where they lead.
+// Where time-outs lead.
 ghost use mathlib.Core.Path.{_≡_};
 ghost use Rattle.listener.specs.Heard.{booting, led, quiet};
 ghost use Rattle.units.specs.declared.Seen.the-variants.{Silence};
-ghost use Rattle.receiver.specs.Late.{afterLate, late, lateAcknowledgement, lateReply};
+ghost use Rattle.receiver.specs.Late.{afterLate, lateAcknowledgement, lateReply};
 use listener::Event;
 use listener::Heard;
 use listener::Listener;
@@ -10,18 +10,7 @@ use phases::Acknowledgement;
 use phases::Ending;
 use phases::Phase;
 use phases::Reply;
-use units::Loops;
 use units::Seen;
-
-// Whether a pulse times out, by its wait or by its low.
-pub(crate) fn is_late(listener: Listener, wait: Loops, low: Loops) -> bool
-    ensures { λ r. ⌜ r ≡ late listener (wait .0) (low .0) ⌝ }
-{
-    if Phase::LAST_TIMELY.0 < wait.0 {
-        return true;
-    }
-    Phase::LAST_TIMELY.0 < low.0
-}
 
 // A time-out boots while the chip reads or aligns. The pulse is used up and gets no reply.
 pub(crate) fn timed_out(listener: Listener) -> Heard

@@ -1,5 +1,7 @@
 pub mod Calibration
 pub mod Clock
+pub mod Countdown
+pub mod Drawing
 pub mod Looking
 pub mod Meeting
 pub mod Simulation

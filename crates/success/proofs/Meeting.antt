@@ -15,7 +15,7 @@ use Rattle.units.specs.Units.{most, loopsIn}
 use Rattle.units.proofs.Conversions.{some-length}
 use Rattle.lent.specs.Bytes.{wordAt, total}
 use Rattle.load.specs.Image.{badLength, otherLength, otherStart, badStack, otherSum}
-use Rattle.settings.specs.Settings.{outside}
+use Rattle.settings.specs.Settings.{outside, slow}
 use Rattle.place.specs.Phases.{ended}
 use Rattle.host.specs.Step.{hostStart}
 use Rattle.host.specs.declared.Host.{Host}
@@ -56,10 +56,10 @@ module _ (p l : ℕ) (loop : 400000 ≤ l) (ticks : ℕ) (brief : ticks * p < 90
       subst (May p l ticks) (sym rounds-down) (record { above = omega (arith, whole, loop); below = omega (arith, whole, rest) })
 
 -- The sample S: every test of both starts computes.
-asked-of-sample : (t p command : ℕ) → hostStart t 8600 p command sample ≡ taken (fresh t 8600 p command sample)
-    → Margin t p 400000 → AskedOfSample t p command
+asked-of-sample : (t h p command : ℕ) → hostStart t h p command sample ≡ taken (fresh t h p command sample)
+    → Margin t p 400000 → AskedOfSample t h p command
 unfolding sample chipStart when
-asked-of-sample t p command starts margin = record {
+asked-of-sample t h p command starts margin = record {
   host-starts = starts;
   bytes = bytes-tested sample refl;
   chip-starts = refl;
@@ -69,7 +69,7 @@ asked-of-sample t p command starts margin = record {
 }
 
 sample-taken : (command : ℕ) → command ≤ 3 → hostStart 8600 8600 700000 command sample ≡ taken (fresh 8600 8600 700000 command sample)
-unfolding sample wordAt total hostStart outside badLength otherLength otherStart badStack otherSum when either
+unfolding sample wordAt total hostStart outside slow badLength otherLength otherStart badStack otherSum when either
 sample-taken zero h = refl
 sample-taken (suc zero) h = refl
 sample-taken (suc (suc zero)) h = refl
@@ -77,8 +77,16 @@ sample-taken (suc (suc (suc zero))) h = refl
 sample-taken (suc (suc (suc (suc n)))) h = absurd (omega (arith, h))
 
 just-taken : hostStart 4300 8600 575000 1 sample ≡ taken (fresh 4300 8600 575000 1 sample)
-unfolding sample wordAt total hostStart outside badLength otherLength otherStart badStack otherSum when either
+unfolding sample wordAt total hostStart outside slow badLength otherLength otherStart badStack otherSum when either
 just-taken = refl
+
+slowest-taken : hostStart 8600 576800 219047 1 sample ≡ taken (fresh 8600 576800 219047 1 sample)
+unfolding sample wordAt total hostStart outside slow badLength otherLength otherStart badStack otherSum when either
+slowest-taken = refl
+
+slower-refused : hostStart 8600 576800 219048 1 sample ≡ refused 16
+unfolding hostStart outside slow when either
+slower-refused = refl
 
 -- A host ends only once.
 same-end : (measured : Measuring) (image : List ℕ) (s : State) (m n : ℕ)
@@ -170,9 +178,11 @@ module _ (t h p command : ℕ) (image : List ℕ) (l : ℕ) (ram eeprom : List �
 pub met : Met
 met = record {
   rounding-down = λ p l loop n ticks brief. down-may p l loop ticks brief;
-  sample-met = λ command h. asked-of-sample 8600 700000 command (sample-taken command h) (omega arith);
-  just-met = asked-of-sample 4300 575000 1 just-taken (omega arith);
+  sample-met = λ command h. asked-of-sample 8600 8600 700000 command (sample-taken command h) (omega arith);
+  just-met = asked-of-sample 4300 8600 575000 1 just-taken (omega arith);
   just = refl;
+  slowest-met = asked-of-sample 8600 576800 219047 1 slowest-taken (omega arith);
+  slower = slower-refused;
   run-taken = not-refused;
   run-succeeds = taken-answers;
 }

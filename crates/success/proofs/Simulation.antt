@@ -1,7 +1,7 @@
 -- The run follows the conversation: where each low may be measured as its bit and no time-out is met, one pulse of the run is one pulse
 -- of the conversation.
 -- Assumes nothing.
-use mathlib.Core.Bool.{Bool, false}
+use mathlib.Core.Bool.{Bool, true, false}
 use mathlib.Core.List.{List}
 use mathlib.Core.Path.{_≡_, refl, sym, ap, _∙_, subst}
 use Prim.Native.Nat.{ℕ, _+_, _-_, _<_}
@@ -19,14 +19,14 @@ use Rattle.phases.specs.Phases as chip
 use Rattle.listener.specs.Settled.{settled}
 use Rattle.receiver.specs.Hears.{hears}
 use Rattle.receiver.specs.declared.Received.{Received}
-use Rattle.receiver.specs.Late.{late}
+use Rattle.countdown.specs.Countdown.{late, aligns}
 use Rattle.line.specs.Reading.{reads}
 use Rattle.listener.specs.declared.Heard.{Heard}
 use Rattle.eeprom.specs.declared.Fault.{Fault}
 use Rattle.eeprom.specs.declared.Fault.the-variants.{None}
 use Rattle.chip.specs.Work.{done}
 use Rattle.chip.specs.Step.{pulse}
-use Rattle.conversation.specs.Conversation.{Talk, bitOf, placeAfter, heardOf, passed, talked, Open, Reach, stay, step}
+use Rattle.conversation.specs.Conversation.{Talk, inStep, bitOf, placeAfter, heardOf, passed, talked, Open, Reach, stay, step}
 use Rattle.conversation.proofs.Pulses.{sound-stays}
 use Rattle.joined.specs.Ends.{after, Unrefused}
 use Rattle.bits.specs.Seeing.{sees}
@@ -58,19 +58,17 @@ module _ (measured : Measuring) (image : List ℕ) (load : Load) where
         lasted measured (s .host .session .pulses)
         (shot measured image s (m .sound) going .rise .0 - shot measured image s (m .sound) going .fall .0)
 
+    abbrev pub afterIt : Received → State
+    afterIt r = met (s .chip) (shot measured image s (m .sound) going) (pulse (s .chip) (s .ram) (s .eeprom) r)
+
+    pub pulsed-so : pulsed measured image s ≡ afterIt (hears (s .chip .receiver) waitOf lowOf)
+    unfolding listened
+    pulsed-so =
+        pulsed-met measured image s (m .sound) going
+        ∙ ap (met (s .chip) (shot measured image s (m .sound) going))
+        (when-false _ _ listens ∙ sym (chip-plays measured image s (m .sound) going listens waitOf lowOf))
+
     module _ (h : Heard) (e : hears (s .chip .receiver) waitOf lowOf .heard ≡ h) where
-      abbrev after-it : State
-      after-it =
-          met (s .chip) (shot measured image s (m .sound) going)
-          (pulse (s .chip) (s .ram) (s .eeprom) (hears (s .chip .receiver) waitOf lowOf))
-
-      pulsed-so : pulsed measured image s ≡ after-it
-      unfolding listened
-      pulsed-so =
-          pulsed-met measured image s (m .sound) going
-          ∙ ap (met (s .chip) (shot measured image s (m .sound) going))
-          (when-false _ _ listens ∙ sym (chip-plays measured image s (m .sound) going listens waitOf lowOf))
-
       -- The state after it, as the conversation has it.
       abbrev shaped : Heard → Place → Fault → Seen → Talk
       shaped x place fault reply = record {
@@ -105,12 +103,14 @@ module _ (measured : Measuring) (image : List ℕ) (load : Load) where
 
   -- What a bit may measure as, and what is known of the clock.
   module _ (Low : Bool → ℕ → Type 0) (Clocked : State → Type 0) where
-    -- The next pulse is measured well, and the clock goes on.
+    -- The next pulse is measured well, and the clock goes on if it is read right where the chip aligns.
     pub record Clocking (s : State) (m : Meets s) (going : hostEnded s ≡ false) (listens : chip.ended (s .chip .receiver .listener .phase) ≡ false)
         : Type 0 where
-      pub timely : late (s .chip .receiver .listener) (waitOf s m going listens) (lowOf s m going listens) ≡ false
+      pub timely : late (s .chip .receiver .left .0) (waitOf s m going listens) (lowOf s m going listens) ≡ false
       pub low : Low (bitOf load image (talkOf s)) (lowOf s m going listens)
-      pub next : Clocked (pulsed measured image s)
+      pub next : (aligns (s .chip .receiver .listener .phase) ≡ true
+          → reads (s .chip .receiver .listener .threshold .0) (lowOf s m going listens) ≡ bitOf load image (talkOf s))
+          → Clocked (pulsed measured image s)
 
     -- A calibrated chip, whose threshold tells a 1 from a 0.
     pub record Ready (s : State) : Type 0 where
@@ -119,13 +119,13 @@ module _ (measured : Measuring) (image : List ℕ) (load : Load) where
       pub clocked : Clocked s
 
     module _ (clock : (s : State) (m : Meets s) (going : hostEnded s ≡ false) (listens : chip.ended (s .chip .receiver .listener .phase) ≡ false)
-        → Clocked s → Clocking s m going listens) where
+        → inStep (s .host .session .place .phase) (s .chip .receiver .listener .phase) ≡ true → Clocked s → Clocking s m going listens) where
       module _ (s : State) (r : Ready s) (o : Open (talkOf s)) where
         abbrev bit : Bool
         bit = bitOf load image (talkOf s)
 
         abbrev measuring : Clocking s (r .meets) (o .host) (o .chip)
-        measuring = clock s (r .meets) (o .host) (o .chip) (r .clocked)
+        measuring = clock s (r .meets) (o .host) (o .chip) (o .in-step) (r .clocked)
 
         hears-bit : hears (s .chip .receiver) (waitOf s (r .meets) (o .host) (o .chip)) (lowOf s (r .meets) (o .host) (o .chip)) .heard
             ≡ heardOf (talkOf s) 0 bit
@@ -150,7 +150,7 @@ module _ (measured : Measuring) (image : List ℕ) (load : Load) where
         ready-on = record {
           meets = pulsed-meets s (r .meets) (o .host) (o .chip) (heardOf (talkOf s) 0 bit) hears-bit;
           tells = λ b x n. ap (λ (d : Loops). reads (d .0) x) same-threshold ∙ r .tells b x n;
-          clocked = measuring .next;
+          clocked = measuring .next (λ e. r .tells bit _ (measuring .low));
         }
 
       -- So many pulses of the run, neither side ending before the last.

@@ -34,6 +34,7 @@ use Rattle.place.specs.declared.Place.{Place}
 use Rattle.success.specs.Success.{Asked, pulses, Succeeds, Demand3}
 use Rattle.success.proofs.Calibration.{before, Calibrated, calibrates}
 use Rattle.success.proofs.Clock.{Clocked, clock}
+use Rattle.success.proofs.Countdown.{Paced, paced-fresh}
 use Rattle.success.proofs.Simulation.{Meets, talkOf}
 use Rattle.success.proofs.Timing.{Low, read-right}
 
@@ -91,6 +92,10 @@ module _ (t h p command : ℕ) (image : List ℕ) (host : Host) (ram eeprom : Li
     at = sym (zero-div p);
     next = ap (λ (x : Host). x .time) (opened .0);
     short = omega arith;
+    close = λ e w. omega arith;
+    paced =
+        subst (λ (x : Chip). Paced t h p l (opened .1) (a .loop) (x .receiver .listener .phase) (host .session .place .index) (x .receiver .left .0))
+        (sym fresh-chip) (paced-fresh t h p l (opened .1) (a .loop) (host .session .place .index));
   }
 
   abbrev finish : (threshold : ℕ) → Success command image threshold ram eeprom

@@ -1,5 +1,5 @@
 -- Timing: a leg's ticks differ from its exact length by less than a tick, its loops from its ticks by less than a loop; so the threshold
--- tells 1 from 0 where t is at least five loops and four ticks, and no time-out is met.
+-- tells 1 from 0 where t is at least five loops and four ticks.
 -- Assumes nothing.
 use mathlib.Core.Bool.{Bool, true, false}
 use mathlib.Core.Path.{_≡_, ap, _∙_}
@@ -8,7 +8,7 @@ use native.Mathlib.Nat.{add-mul, div-add-mod', lt-of-mul-lt-mul-right, mod-lt}
 use native.Mathlib.Omega.{arith}
 use borrow.Author.Tests.{lt-ltb, le-ltb}
 use Rattle.line.specs.Reading.{thresholdOf, reads}
-use Rattle.success.specs.Success.{May, Loop, Margin}
+use Rattle.success.specs.Success.{May, Margin}
 
 -- Two lengths differ by less than a third.
 pub record Near (d x y : ℕ) : Type 0 where
@@ -33,14 +33,6 @@ ticks-near p a d some =
 pub loops-near : (p l d ticks c : ℕ) → Near p d (ticks * p) → May p l ticks c → Near (l + p) d (c * l)
 loops-near p l d ticks c n m =
     record { above = omega (arith, n .above, m .above); below = omega (arith, n .below, m .below) }
-
-module _ (p l : ℕ) (loop : Loop l) (tick : p ≤ 1000000) where
-  -- What lasts no longer than the longest spacer is no time-out.
-  pub timely : (d c : ℕ) → d ≤ 90000000000 → Near (l + p) d (c * l) → c ≤ 249999
-  timely d c short n =
-      let scaled : c * l < 250000 * l = omega (arith, n .above, short, loop .0, loop .1, tick) in
-      let few : c < 250000 = lt-of-mul-lt-mul-right l scaled in
-      omega (arith, few)
 
 -- A bit whose low lasts t or twice that, and what it may measure as.
 module _ (t p l : ℕ) (margin : Margin t p l) where

@@ -27,10 +27,10 @@ fresh t h p command image = host.fresh (record { t = t; h = h; p = p }) (session
 abbrev pub zeros : List ℕ
 zeros = replicate 32768 0
 
--- All that is asked, with the sample S on a bench of given t and p, and each count rounded down.
-abbrev pub AskedOfSample : ℕ → ℕ → ℕ → Type 0
-AskedOfSample t p command =
-    Asked t 8600 p command sample (fresh t 8600 p command sample) zeros zeros (chip.fresh None) 400000 (roundedDown p 400000)
+-- All that is asked, with the sample S on a bench of given figures, and each count rounded down.
+abbrev pub AskedOfSample : ℕ → ℕ → ℕ → ℕ → Type 0
+AskedOfSample t h p command =
+    Asked t h p command sample (fresh t h p command sample) zeros zeros (chip.fresh None) 400000 (roundedDown p 400000)
 
 -- What a run came to that succeeds, and how it leaves both memories.
 pub record Answers (t h p command : ℕ) (image : List ℕ) (l : ℕ) (ram eeprom : List ℕ) (o : Outcome) : Type 0 where
@@ -43,9 +43,12 @@ pub record Met : Type 0 where
   -- Rounding down is one way that each count may be measured.
   pub rounding-down : (p l : ℕ) → 400000 ≤ l → (n ticks : ℕ) → ticks * p < 90001000000 → May p l ticks (roundedDown p l n ticks)
   -- All is met by S with each command, with the figures of `planned`, and where t is just five loops and four ticks.
-  pub sample-met : (command : ℕ) → command ≤ 3 → AskedOfSample 8600 700000 command
-  pub just-met : AskedOfSample 4300 575000 1
+  pub sample-met : (command : ℕ) → command ≤ 3 → AskedOfSample 8600 8600 700000 command
+  pub just-met : AskedOfSample 4300 8600 575000 1
   pub just : 5 * 400000 + 4 * 575000 ≡ 4300 * 1000
+  -- And by the slowest figures of a bench that are taken: with a tick of one picosecond more they are refused 16.
+  pub slowest-met : AskedOfSample 8600 576800 219047 1
+  pub slower : host.hostStart 8600 576800 219048 1 sample ≡ refused 16
   -- `run` rounds down: it is taken wherever all is met, and then succeeds.
   pub run-taken : (t h p command : ℕ) (image : List ℕ) (host : Host) (ram eeprom : List ℕ) (chip : Chip) (l : ℕ)
       → Asked t h p command image host ram eeprom chip l (roundedDown p l) → (n : ℕ)

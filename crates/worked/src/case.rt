@@ -43,8 +43,9 @@ pub(crate) const LOW: u32 = 17;
 
 pub(crate) const SEEN: u32 = 18;
 
-// A number that a line does not say.
-pub(crate) const UNSAID: u32 = u32::MAX;
+pub(crate) const TO: u32 = 19;
+
+pub(crate) const STOPPED: u32 = 20;
 
 // A case with a pulse, or with a byte that is sent as another, is stepped.
 pub(crate) fn run(line: &[u8]) {
@@ -58,8 +59,17 @@ pub(crate) fn run(line: &[u8]) {
     whole::case(line);
 }
 
-// The number behind a name of the list.
+// The number behind a name of the list, cut to 32 bits.
 pub(crate) fn number(line: &[u8], name: u32, otherwise: u32) -> u32 {
+    (said(line, name, otherwise as u64) % 4_294_967_296) as u32
+}
+
+// Whether the line says a number there.
+pub(crate) fn says(line: &[u8], name: u32) -> bool {
+    said(line, name, u64::MAX) != u64::MAX
+}
+
+fn said(line: &[u8], name: u32, otherwise: u64) -> u64 {
     let names: &[u8] = b"t \n\
         h \n\
         p \n\
@@ -78,13 +88,10 @@ pub(crate) fn number(line: &[u8], name: u32, otherwise: u32) -> u32 {
         pulse \n\
         wait \n\
         low \n\
-        seen \n";
-    (cases::number(line, cases::line(names, name), otherwise as u64) % 4_294_967_296) as u32
-}
-
-// Whether the line says a number there.
-fn says(line: &[u8], name: u32) -> bool {
-    number(line, name, UNSAID) != UNSAID
+        seen \n\
+        to \n\
+        stopped after \n";
+    cases::number(line, cases::line(names, name), otherwise)
 }
 
 // The number cut to a byte.

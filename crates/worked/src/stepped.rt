@@ -25,61 +25,82 @@ const ONE: u32 = 8;
 
 const ZERO: u32 = 17;
 
-// What the host sees by `seen silent`, which has no number.
+// What the host sees by `seen silent`, which has no number; and where a case measures its pulses, what the chip replied.
 const SILENT: u32 = 2;
 
-// The pulse that the case names, counted from 1: the loops of the wait before it and of its low, which the chip measures, or what the
-// host sees around it.
+const REPLIED: u32 = 3;
+
+// The pulses that the case names, from the first to the last, counted from 1: the loops of the wait before each, and of its low as a 1 and
+// as a 0, which the chip measures; or what the host sees around it.
 struct Named {
-    pulse: u32,
+    first: u32,
+    last: u32,
     wait: u32,
-    low: u32,
+    one: u32,
+    zero: u32,
     seen: u32,
 }
 
 impl Named {
     fn of(line: &[u8]) -> Named {
+        let first = number(line, case::PULSE, 0);
         Named {
-            pulse: number(line, case::PULSE, 0),
+            first,
+            last: number(line, case::TO, first),
             wait: number(line, case::WAIT, WAIT),
-            low: number(line, case::LOW, case::UNSAID),
-            seen: number(line, case::SEEN, SILENT),
+            one: number(line, case::LOW, ONE),
+            zero: number(line, case::LOW, ZERO),
+            seen: seen(line),
         }
     }
 
+    fn names(self, n: u32) -> bool {
+        if n < self.first {
+            return false;
+        }
+        n <= self.last
+    }
+
     fn wait(self, n: u32) -> Loops {
-        if n == self.pulse {
+        if self.names(n) {
             return Loops(self.wait);
         }
         Loops(WAIT)
     }
 
     fn low(self, n: u32, bit: bool) -> Loops {
-        if n == self.pulse {
-            if self.low != case::UNSAID {
-                return Loops(self.low);
-            }
+        if self.names(n) {
+            return chosen(bit, self.one, self.zero);
         }
-        if bit {
-            return Loops(ONE);
-        }
-        Loops(ZERO)
+        chosen(bit, ONE, ZERO)
     }
 
     fn seen(self, n: u32, reply: Seen) -> Seen {
-        if n != self.pulse {
-            return reply;
-        }
-        if self.low != case::UNSAID {
+        if !self.names(n) {
             return reply;
         }
         let seen = self.seen;
         match seen {
             0 => Seen::Zero,
             1 => Seen::One,
-            _ => Seen::Silence,
+            2 => Seen::Silence,
+            _ => reply,
         }
     }
+}
+
+fn seen(line: &[u8]) -> u32 {
+    if case::says(line, case::WAIT) {
+        return REPLIED;
+    }
+    number(line, case::SEEN, SILENT)
+}
+
+fn chosen(bit: bool, one: u32, zero: u32) -> Loops {
+    if bit {
+        return Loops(one);
+    }
+    Loops(zero)
 }
 
 // The memories are its own: the EEPROM holds S, which would boot, and each byte of the RAM is 1.
@@ -89,6 +110,7 @@ pub(crate) fn case(line: &[u8]) {
     let mut eeprom = sample::eeprom();
     pulses(
         Named::of(line),
+        number(line, case::STOPPED, MOST_PULSES),
         session(line),
         chip(line),
         &image,
@@ -108,6 +130,7 @@ fn image(line: &[u8]) -> [u8; 44] {
 
 fn pulses(
     named: Named,
+    most: u32,
     mut session: Session,
     mut chip: Chip,
     image: &[u8],
@@ -116,7 +139,7 @@ fn pulses(
 ) {
     let mut reply = Seen::Silence;
     let mut n = 0;
-    while n < MOST_PULSES {
+    while n < most {
         let step = session.step(image, named.seen(n, reply));
         let Stepped::Sent(pulse) = step else {
             break;
@@ -136,10 +159,11 @@ fn pulses(
 
 // The session of S before its first pulse, and the chip before it.
 fn session(line: &[u8]) -> Session {
+    let command = number(line, case::COMMAND, 1);
     Session {
         load: Load {
-            command: number(line, case::COMMAND, 1),
-            length: Bytes(44),
+            command,
+            length: length(command),
         },
         place: Place {
             phase: Phase::Calibration,
@@ -149,6 +173,14 @@ fn session(line: &[u8]) -> Session {
         ones: 0,
         zeros: 0,
     }
+}
+
+// Command 0 has no image.
+fn length(command: u32) -> Bytes {
+    if command == 0 {
+        return Bytes(0);
+    }
+    Bytes(44)
 }
 
 fn chip(line: &[u8]) -> Chip {

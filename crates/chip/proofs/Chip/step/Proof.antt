@@ -1,6 +1,7 @@
 -- `Chip::step` checks its rows in their order; past them the pulse is heard, its work done, and the record settled.
 -- Assumes nothing.
-use Rattle.terms.proofs.Refusals.{walk}
+use mathlib.Core.Path.{refl}
+use Rattle.terms.proofs.Refusals.{walk, row-passed, agrees, answered}
 use Rattle.chip.proofs.Steps.{step-refused, step-done}
 use borrow.Author.Needs.{needs}
 use Rattle.chip.proofs.Chip.step.Statement.{statement}
@@ -40,7 +41,18 @@ same-length-2 : tie.Need-same-length-2
 same-length-2 c = search needs
 
 returns-5 : tie.Need-returns-5
-returns-5 c = search (step-done, walk) depth 12
+returns-5 c =
+    let worked = c .before .before .before .before .before in
+    let told = worked .before .before .before .before in
+    let fourth = told .before .before in
+    let third = fourth .before .before in
+    let second = third .before .before in
+    let first = second .before .before in
+    step-done _ _ _ _ _ (told .hears .result) (worked .done .result) _ _ _ (c .after .ensures) (worked .done .ensures) (told .hears .ensures)
+    (row-passed _ _ _ _ (agrees _ _ (first .if1 .left))
+    (row-passed _ _ _ _ (agrees _ _ (second .if2 .left))
+    (row-passed _ _ _ _ (answered _ _ _ (third .before .is-outside .ensures) (third .if3 .left))
+    (row-passed _ _ _ _ (answered _ _ _ (fourth .before .has-ended .ensures) (fourth .if4 .left)) refl))))
 
 pub step-spec : {M : Type 1} → statement M
 step-spec =

@@ -27,7 +27,14 @@ returns-3 : tie.Need-returns-3
 unfolding settingsOutside
 returns-3 c = search walk depth 12
 
+is-slow-requires : tie.Need-is-slow-requires
+is-slow-requires c κs = search needs
+
+returns-4 : tie.Need-returns-4
+unfolding settingsOutside
+returns-4 c = search walk depth 12
+
 pub is-outside-spec : {M : Type 1} → statement M
 is-outside-spec =
     tie.close
-    (tie.spec outside-requires returns outside-requires-2 returns-2 outside-requires-3 returns-3)
+    (tie.spec outside-requires returns outside-requires-2 returns-2 outside-requires-3 returns-3 is-slow-requires returns-4)

@@ -27,9 +27,16 @@ returns-3 : tie.Need-returns-3
 unfolding checked
 returns-3 c = search walk depth 12
 
+is-slow-requires : tie.Need-is-slow-requires
+is-slow-requires c κs = search needs
+
 returns-4 : tie.Need-returns-4
 unfolding checked
 returns-4 c = search walk depth 12
+
+returns-5 : tie.Need-returns-5
+unfolding checked
+returns-5 c = search walk depth 12
 
 pub new-spec : {M : Type 1} → statement M
 new-spec =
@@ -41,4 +48,6 @@ new-spec =
     returns-2
     outside-requires-3
     returns-3
-    returns-4)
+    is-slow-requires
+    returns-4
+    returns-5)

@@ -9,11 +9,11 @@ use Rattle.worked.proofs.stepped.pulses.Statement.{statement}
 use Rattle.worked.proofs.stepped.pulses.Tie as tie
 
 abbrev Inv-loop : tie.InvT-loop
-Inv-loop named session₀ chip₀ image ram₀ eeprom₀ reply₀ n₀ session chip ram eeprom reply n =
-    (n ≤ 2634) × (length ram ≡ length ram₀) × (length eeprom ≡ length eeprom₀)
+Inv-loop named most session₀ chip₀ image ram₀ eeprom₀ reply₀ n₀ session chip ram eeprom reply n =
+    (n ≤ most) × (length ram ≡ length ram₀) × (length eeprom ≡ length eeprom₀)
 
 abbrev μ-loop : tie.MeasureT-loop
-μ-loop named session₀ chip₀ image ram₀ eeprom₀ reply₀ n₀ session chip ram eeprom reply n = 2634 - n
+μ-loop named most session₀ chip₀ image ram₀ eeprom₀ reply₀ n₀ session chip ram eeprom reply n = most - n
 
 loop-holds : tie.Need-loop-holds Inv-loop μ-loop
 loop-holds c = (omega arith, refl, refl)
