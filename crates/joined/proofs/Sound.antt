@@ -3,11 +3,11 @@
 -- Assumes nothing.
 use mathlib.Core.Bool.{false}
 use mathlib.Core.List.{List}
-use mathlib.Core.Path.{_≡_, refl, sym, ap, _∙_, subst}
+use mathlib.Core.Path.{_≡_, sym, ap, subst}
 use Prim.Native.Nat.{ℕ, _+_}
 use lib.ListN.{length}
 use Rattle.terms.specs.Refusals.{refused, taken}
-use Rattle.terms.proofs.Refusals.{not-both, agrees, clear-taken}
+use Rattle.terms.proofs.Refusals.{not-both, clear-taken}
 use Rattle.terms.proofs.Tests.{when-elim}
 use Rattle.load.specs.Load.{otherImage}
 use Rattle.session.specs.Step.{pulseOf}
@@ -17,16 +17,9 @@ use Rattle.host.specs.declared.Sent.{Sent}
 use Rattle.host.proofs.Kept.{Kept, step-keeps}
 use Rattle.phases.specs.Phases as chip
 use Rattle.receiver.specs.Hears.{hears}
-use Rattle.listener.specs.declared.Event.{Event}
-use Rattle.listener.specs.declared.Event.the-variants.{Nothing, Store, Finish, Program, Verify, Launch, Boot}
-use Rattle.eeprom.specs.declared.Fault.{Fault}
-use Rattle.ram.proofs.Stored.{stored-length, zeroed-length, flagged-length}
-use Rattle.eeprom.proofs.Memories.{programmed-length, booted-length}
-use Rattle.chip.specs.Work.{done}
 use Rattle.chip.specs.Step.{Left, chipStep, pulse}
 use Rattle.chip.specs.Reached.{Reached, stepped}
-use Rattle.chip.proofs.Reached.{chip-kept, reached-kept}
-use Rattle.chip.proofs.Steps.{step-played}
+use Rattle.chip.proofs.Sound.{step-plays, step-ram-size, step-eeprom-size, step-unrefused}
 use Rattle.joined.specs.Ends.{Unrefused}
 use Rattle.bits.specs.Seeing.{sees}
 use Rattle.joined.specs.Joined.{State, Measuring, listened, replied, met, sentTo, sent, pulsed, hostEnded}
@@ -38,25 +31,6 @@ pub record Sound (image : List ℕ) (s : State) : Type 0 where
   pub reached : Reached (s .chip)
   pub ram-size : length (s .ram) ≡ 32768
   pub eeprom-size : length (s .eeprom) ≡ 32768
-
--- Work on the memories keeps their sizes.
-done-ram : (fault : Fault) (event : Event) (ram eeprom : List ℕ) → length (done fault event ram eeprom .ram) ≡ length ram
-done-ram fault Nothing ram eeprom = refl
-done-ram fault (Store k long) ram eeprom = stored-length _ long ram
-done-ram fault (Finish k long) ram eeprom = flagged-length _ ∙ zeroed-length _ _ ∙ stored-length _ long ram
-done-ram fault Program ram eeprom = refl
-done-ram fault Verify ram eeprom = refl
-done-ram fault Launch ram eeprom = refl
-done-ram fault Boot ram eeprom = booted-length fault ram eeprom
-
-done-eeprom : (fault : Fault) (event : Event) (ram eeprom : List ℕ) → length (done fault event ram eeprom .eeprom) ≡ length eeprom
-done-eeprom fault Nothing ram eeprom = refl
-done-eeprom fault (Store k long) ram eeprom = refl
-done-eeprom fault (Finish k long) ram eeprom = refl
-done-eeprom fault Program ram eeprom = programmed-length fault ram eeprom
-done-eeprom fault Verify ram eeprom = refl
-done-eeprom fault Launch ram eeprom = refl
-done-eeprom fault Boot ram eeprom = refl
 
 module _ (measured : Measuring) (image : List ℕ) (s : State) (k : Sound image s) (going : hostEnded s ≡ false) where
   -- The pulse that the host sends.
@@ -80,19 +54,17 @@ module _ (measured : Measuring) (image : List ℕ) (s : State) (k : Sound image 
 
   pub chip-plays : chip.ended (s .chip .receiver .listener .phase) ≡ false → (wait low : ℕ)
       → pulse (s .chip) (s .ram) (s .eeprom) (hears (s .chip .receiver) wait low) ≡ chipStep (s .chip) (s .ram) (s .eeprom) wait low
-  chip-plays e wait low =
-      step-played (s .chip) (s .ram) (s .eeprom) wait low
-      (agrees _ _ (k .ram-size), (agrees _ _ (k .eeprom-size), (chip-kept (s .chip) .1 (reached-kept (s .chip) (k .reached)), (e, tt))))
+  chip-plays e wait low = step-plays (s .chip) (s .ram) (s .eeprom) (k .reached) (k .ram-size) (k .eeprom-size) e wait low
 
   plays-fine : chip.ended (s .chip .receiver .listener .phase) ≡ false → (wait low : ℕ) → Fine (chipStep (s .chip) (s .ram) (s .eeprom) wait low)
-  plays-fine e wait low =
-      let heard = hears (s .chip .receiver) wait low in
-      subst Fine (chip-plays e wait low) (record {
-        reached = stepped (s .chip) (s .ram) (s .eeprom) wait low _ _ _ (k .reached) (sym (chip-plays e wait low));
-        ram-size = done-ram (s .chip .fault) (heard .heard .event) (s .ram) (s .eeprom) ∙ k .ram-size;
-        eeprom-size = done-eeprom (s .chip .fault) (heard .heard .event) (s .ram) (s .eeprom) ∙ k .eeprom-size;
-        unrefused = λ n q. not-both (sym q);
-      })
+  plays-fine e wait low = record {
+    reached =
+        let plays = chip-plays e wait low in
+        subst (λ (l : Left). Reached (replied (s .chip) (l .answer) .chip)) plays (stepped (s .chip) (s .ram) (s .eeprom) wait low _ _ _ (k .reached) (sym plays));
+    ram-size = step-ram-size (s .chip) (s .ram) (s .eeprom) (k .reached) (k .ram-size) (k .eeprom-size) e wait low;
+    eeprom-size = step-eeprom-size (s .chip) (s .ram) (s .eeprom) (k .reached) (k .ram-size) (k .eeprom-size) e wait low;
+    unrefused = step-unrefused (s .chip) (s .ram) (s .eeprom) (k .reached) (k .ram-size) (k .eeprom-size) e wait low;
+  }
 
   listened-fine : Fine (listened measured s shot)
   unfolding listened

@@ -1,16 +1,14 @@
 -- Demand 1, fact by fact: each call goes through a table of rows, so that what is proved of every table is proved of it. A run goes through
 -- two, the second where the first lets it pass.
 -- Assumes nothing.
-use mathlib.Core.Bool.{true, false}
+use mathlib.Core.Bool.{true}
 use mathlib.Core.List.{List, [], _∷_, _++_}
 use mathlib.Core.Logic.{_⊎_, inl, inr}
 use mathlib.Core.Path.{_≡_, refl, sym, ap, _∙_}
 use Prim.Native.Nat.{ℕ}
 use native.Mathlib.Omega.{arith}
-use lib.ListN.{length}
 use Rattle.terms.specs.Refusals.{Row, Answer, refused, taken, first, Given}
-use Rattle.terms.proofs.Refusals.{Clear, refused-exactly, taken-exactly, clear-taken, clear-both, agrees}
-use Rattle.units.specs.declared.Seen.{Seen}
+use Rattle.terms.proofs.Refusals.{Clear, refused-exactly, taken-exactly, clear-taken, clear-both, agrees, not-both}
 use Rattle.settings.specs.Settings.{settingsRows, checked}
 use Rattle.load.specs.Load.{loadRows, loadOf, accepted}
 use Rattle.place.specs.Phases as place
@@ -25,7 +23,6 @@ use Rattle.host.proofs.Reached as host-reached
 use Rattle.serial.specs.Step.{serialStart, serialRows, serialStep}
 use Rattle.serial.proofs.Reached as serial-reached
 use Rattle.eeprom.specs.declared.Fault.{Fault}
-use Rattle.phases.specs.Phases as phases
 use Rattle.chip.specs.Step.{startRows, stepRows, chipStart, chipStep, unlessRefused}
 use Rattle.chip.specs.Step as chip
 use Rattle.chip.specs.declared.Chip.{Chip}
@@ -34,7 +31,11 @@ use Rattle.chip.proofs.Steps.{step-given}
 use Rattle.joined.specs.Joined.{roundedDown}
 use Rattle.joined.specs.Run.{fromChip, fromHost, runOf}
 use Rattle.joined.specs.Run as runs
-use Rattle.refusals.specs.Demand1.{runRows, Demand1}
+use Rattle.trace.specs.Traces.{fileRows, judgement, writeRows, writes}
+use Rattle.trace.specs.Traces as traces
+use Rattle.replay.specs.Replay.{replayRows, replayOf}
+use Rattle.replay.specs.Replay as replays
+use Rattle.refusals.specs.Demand1.{Demand1}
 
 -- What two tables refuse, one after the other: the first does, or lets it pass and the second does.
 given-split : (n : ℕ) (rows more : List Row) → Given n (rows ++ more) → Given n rows ⊎ (Clear rows × Given n more)
@@ -92,11 +93,37 @@ module _ (t h p command : ℕ) (image : List ℕ) (fault : Fault) (l : ℕ) (ram
       let z : _≡_ {A = ℕ} 0 1 = cc in
       absurd (omega arith)
 
+module _ (ns buffer : List ℕ) (n : ℕ) where
+  write-left : Given n (writeRows ns buffer) → writes ns buffer ≡ traces.left (refused n) buffer
+  unfolding writes
+  write-left g = ap (traces.unlessRefused ns buffer) (refused-exactly _ n (writeRows ns buffer) .1 g)
+
+  write-by : (a : Answer ℕ) → traces.unlessRefused ns buffer a .answer ≡ refused n → a ≡ refused n
+  write-by (refused m) e = e
+  write-by (taken k) e = absurd (not-both (sym e))
+
+  write-given : writes ns buffer .answer ≡ refused n → Given n (writeRows ns buffer)
+  unfolding writes
+  write-given e = refused-exactly _ n (writeRows ns buffer) .0 (write-by _ e)
+
+module _ (trace : List ℕ) (fault : Fault) (ram eeprom : List ℕ) (n : ℕ) where
+  replay-left : Given n (replayRows trace fault ram eeprom) → replayOf trace fault ram eeprom ≡ replays.left (refused n) ram eeprom
+  unfolding replayOf
+  replay-left g = ap (replays.unlessRefused fault ram eeprom) (refused-exactly _ n (replayRows trace fault ram eeprom) .1 g)
+
+  replay-by : (a : Answer (List ℕ)) → replays.unlessRefused fault ram eeprom a .answer ≡ refused n → a ≡ refused n
+  replay-by (refused m) e = let same : m ≡ n = cc in ap refused same
+  replay-by (taken ns) e = absurd (not-both (sym e))
+
+  replay-given : replayOf trace fault ram eeprom .answer ≡ refused n → Given n (replayRows trace fault ram eeprom)
+  unfolding replayOf
+  replay-given e = refused-exactly _ n (replayRows trace fault ram eeprom) .0 (replay-by _ e)
+
 session-14 : (s : Session) → Within s → place.ended (s .place .phase) ≡ true → (image : List ℕ) → Given 14 (session.stepRows s image)
 session-14 s w e image = inr (session-within s .1 w, inl (refl, e))
 
 pub demand-1 : Demand1
-unfolding checked accepted sessionStart sessionStep hostStart hostStep serialStart serialStep chipStart
+unfolding checked accepted sessionStart sessionStep hostStart hostStep serialStart serialStep chipStart judgement
 demand-1 = record {
   settings = λ t h p n. refused-exactly _ n (settingsRows t h p);
   load = λ command image n. refused-exactly _ n (loadRows command image);
@@ -109,12 +136,18 @@ demand-1 = record {
   serial-step = λ s image back n. refused-exactly _ n (serialRows s image back);
   chip-step = λ c ram eeprom wait low n.
       (step-given c ram eeprom wait low n, λ g. ap (λ (x : chip.Left). x .answer) (chip-left c ram eeprom wait low n g));
+  judge = λ trace n. refused-exactly _ n (fileRows trace);
+  write = λ ns buffer n. (write-given ns buffer n, λ g. ap (λ (x : traces.Left). x .answer) (write-left ns buffer n g));
+  replay = λ trace fault ram eeprom n.
+      (replay-given trace fault ram eeprom n, λ g. ap (λ (x : replays.Left). x .answer) (replay-left trace fault ram eeprom n g));
   run = λ t h p command image fault l ram eeprom n. (
     run-by t h p command image fault l ram eeprom n _ refl,
     λ g. ap (λ (x : runs.Left). x .answer) (run-left t h p command image fault l ram eeprom n g),
   );
   chip-left = chip-left;
   run-left = run-left;
+  replay-left = replay-left;
+  write-left = write-left;
   session-never-13 = session-reached.never-13;
   host-never-13 = host-reached.never-13;
   serial-never-13 = serial-reached.never-13;

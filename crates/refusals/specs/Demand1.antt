@@ -32,6 +32,10 @@ use Rattle.chip.specs.declared.Chip.{Chip}
 use Rattle.chip.specs.Reached as chip-reached
 use Rattle.joined.specs.Run.{runOf}
 use Rattle.joined.specs.Run as runs
+use Rattle.trace.specs.Traces.{fileRows, judgement, writeRows, writes}
+use Rattle.trace.specs.Traces as traces
+use Rattle.replay.specs.Replay.{replayRows, replayOf}
+use Rattle.replay.specs.Replay as replays
 
 -- The rows of a run: the start of the host, 1 to 9, then that of the chip, 10 to 12.
 abbrev pub runRows : ℕ → ℕ → ℕ → ℕ → List ℕ → Fault → List ℕ → List ℕ → List Row
@@ -55,15 +59,23 @@ pub record Demand1 : Type 0 where
       → (serialStep s image back ≡ refused n) ↔ Given n (serialRows s image back)
   pub chip-step : (c : Chip) (ram eeprom : List ℕ) (wait low n : ℕ)
       → (chipStep c ram eeprom wait low .answer ≡ refused n) ↔ Given n (stepRows c ram eeprom)
+  -- of a trace that is judged, written or replayed,
+  pub judge : (trace : List ℕ) (n : ℕ) → (judgement trace ≡ refused n) ↔ Given n (fileRows trace)
+  pub write : (ns buffer : List ℕ) (n : ℕ) → (writes ns buffer .answer ≡ refused n) ↔ Given n (writeRows ns buffer)
+  pub replay : (trace : List ℕ) (fault : Fault) (ram eeprom : List ℕ) (n : ℕ)
+      → (replayOf trace fault ram eeprom .answer ≡ refused n) ↔ Given n (replayRows trace fault ram eeprom)
   -- and of a run.
   pub run : (t h p command : ℕ) (image : List ℕ) (fault : Fault) (l : ℕ) (ram eeprom : List ℕ) (n : ℕ)
       → (runOf t h p command image fault l ram eeprom .answer ≡ refused n) ↔ Given n (runRows t h p command image fault ram eeprom)
-  -- A refusal leaves both memories as they were lent. Records go by value: a refused call hands none back.
+  -- A refusal leaves both memories, and a buffer, as they were lent. Records go by value: a refused call hands none back.
   pub chip-left : (c : Chip) (ram eeprom : List ℕ) (wait low n : ℕ) → Given n (stepRows c ram eeprom)
       → chipStep c ram eeprom wait low ≡ chip.left (refused n) ram eeprom
   pub run-left : (t h p command : ℕ) (image : List ℕ) (fault : Fault) (l : ℕ) (ram eeprom : List ℕ) (n : ℕ)
       → Given n (runRows t h p command image fault ram eeprom)
       → runOf t h p command image fault l ram eeprom ≡ runs.left (refused n) ram eeprom
+  pub replay-left : (trace : List ℕ) (fault : Fault) (ram eeprom : List ℕ) (n : ℕ) → Given n (replayRows trace fault ram eeprom)
+      → replayOf trace fault ram eeprom ≡ replays.left (refused n) ram eeprom
+  pub write-left : (ns buffer : List ℕ) (n : ℕ) → Given n (writeRows ns buffer) → writes ns buffer ≡ traces.left (refused n) buffer
   -- 13 is never given to a record got from a start by steps that weren't refused,
   pub session-never-13 : (s : Session) → session-reached.Reached s → (image : List ℕ) (seen : Seen) → sessionStep s image seen ≡ refused 13 → ⊥
   pub host-never-13 : (x : Host) → host-reached.Reached x → (image : List ℕ) (seen : Seen) → hostStep x image seen ≡ refused 13 → ⊥

@@ -8,6 +8,8 @@ use Rattle.units.proofs.Longs.to_bytes.Kinds as to-bytes-kinds
 use Rattle.units.proofs.Longs.to_bytes.Reads as to-bytes
 use Rattle.units.proofs.Longs.to_end.Kinds as to-end-kinds
 use Rattle.units.proofs.Longs.to_end.Reads as to-end
+use Rattle.units.proofs.Loops.of.Kinds as of-kinds
+use Rattle.units.proofs.Loops.of.Reads as of
 use Rattle.units.proofs.Ticks.to_loops.Kinds as to-loops-kinds
 use Rattle.units.proofs.Ticks.to_loops.Reads as to-loops
 
@@ -22,3 +24,6 @@ to-end-one κs a r₁ r₂ e₁ e₂ p q = λ i. record { 0 = (p ∙ sym q) i }
 
 pub to-loops-one : OneAnswer to-loops-kinds.ps to-loops-kinds.r to-loops.Post
 to-loops-one κs a r₁ r₂ e₁ e₂ p q = λ i. record { 0 = (p ∙ sym q) i }
+
+pub of-one : OneAnswer of-kinds.ps of-kinds.r of.Post
+of-one κs a r₁ r₂ e₁ e₂ p q = λ i. record { 0 = (p ∙ sym q) i }

@@ -20,6 +20,10 @@ bytesIn longs = longs * 4
 abbrev pub endOf : ℕ → ℕ
 endOf k = bytesIn k + 4
 
+-- The loops of a count that was recorded.
+abbrev pub loopsOf : ℕ → ℕ
+loopsOf n = min n most
+
 -- The loops of l ps in some ticks of p ps, rounded down. In loops of no length there is no last one, and the count is the largest.
 unfoldable pub loopsIn : ℕ → ℕ → ℕ → ℕ
 loopsIn ticks p l = when (eqb l 0) most (min (ticks * p / l) most)

@@ -2,7 +2,7 @@
 // another by the conversions here and in no other way.
 ghost use mathlib.Core.Path.{_≡_};
 ghost use Prim.Native.Nat.{min};
-ghost use Rattle.units.specs.Units.{most, longsIn, bytesIn, endOf, loopsIn};
+ghost use Rattle.units.specs.Units.{most, longsIn, bytesIn, endOf, loopsOf, loopsIn};
 
 // Ticks of the bench's clock.
 pub struct Ticks(pub u64);
@@ -52,6 +52,15 @@ impl Longs {
         ensures { λ r. ⌜ r .0 ≡ endOf (self .0) ⌝ }
     {
         Bytes(self.0 as usize * 4 + 4)
+    }
+}
+
+impl Loops {
+    // The loops of a count that was recorded: more loops than the ROM can count are `u32::MAX` loops.
+    pub fn of(n: u64) -> Loops
+        ensures { λ r. ⌜ r .0 ≡ loopsOf n ⌝ }
+    {
+        Loops(counted(n))
     }
 }
 

@@ -1,0 +1,3 @@
+pub mod Plays
+pub mod Pulses
+pub mod Replay

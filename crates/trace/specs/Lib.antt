@@ -1,0 +1,2 @@
+pub mod RoundTrip
+pub mod Traces
