@@ -24,7 +24,7 @@ use Rattle.numbers.proofs.Going.{at-end}
 use Rattle.trace.specs.Traces.{Numbers, good, faulty, after, isFaulty, listOf, numbersIn}
 use Rattle.trace.proofs.Files.{Read, value-read, bad-here, not-end, in-none, in-more}
 use Rattle.replay.specs.Pulses.{withLow, withWait, pulseAt}
-use Rattle.replay.specs.Replay.{State, state, kept, listened, played}
+use Rattle.replay.specs.Replay.{State, state, replied, kept, listened, played}
 use Rattle.replay.specs.declared.pulses.Pulse.{Pulse}
 use Rattle.replay.specs.declared.pulses.Recorded.{Recorded}
 use Rattle.replay.specs.declared.pulses.Recorded.the-variants as recording
@@ -201,16 +201,12 @@ module _ (trace : List ℕ) (end : State) where
 -- What the chip's step leaves is what a pulse leaves.
 module _ (c : Chip) (ram eeprom : List ℕ) (wait low : ℕ) (s : Stepped) (x : Chip) (ram′ eeprom′ : List ℕ)
     (q : left (toldStepped s) ram′ eeprom′ ≡ chipStep c ram eeprom wait low) where
-  pub listen-refused : (n : ℕ) → s ≡ stepped.Refused n → x ≡ c → state x ram′ eeprom′ ≡ listened (state c ram eeprom) wait low
+  listen-left : x ≡ replied c (toldStepped s) → state x ram′ eeprom′ ≡ listened (state c ram eeprom) wait low
   unfolding listened
-  listen-refused n e h =
-      ap (λ (y : Chip). state y ram′ eeprom′) h
-      ∙ ap (λ (a : Stepped). kept c (left (toldStepped a) ram′ eeprom′)) (sym e)
-      ∙ ap (kept c) q
+  listen-left h = ap (λ (y : Chip). state y ram′ eeprom′) h ∙ ap (kept c) q
+
+  pub listen-refused : (n : ℕ) → s ≡ stepped.Refused n → x ≡ c → state x ram′ eeprom′ ≡ listened (state c ram eeprom) wait low
+  listen-refused n e h = listen-left (h ∙ ap (λ (a : Stepped). replied c (toldStepped a)) (sym e))
 
   pub listen-played : (p : Played) → s ≡ stepped.Taken p → x ≡ p .chip → state x ram′ eeprom′ ≡ listened (state c ram eeprom) wait low
-  unfolding listened
-  listen-played p e h =
-      ap (λ (y : Chip). state y ram′ eeprom′) h
-      ∙ ap (λ (a : Stepped). kept c (left (toldStepped a) ram′ eeprom′)) (sym e)
-      ∙ ap (kept c) q
+  listen-played p e h = listen-left (h ∙ ap (λ (a : Stepped). replied c (toldStepped a)) (sym e))
