@@ -50,13 +50,13 @@ unfolding receiverOutside leftOutside
 receiver-within r = (
   (λ q.
       let parts = either-false _ _ .0 q in
-      let left = either-false _ _ .0 (parts .0) in
+      let left = either-false _ _ .0 (parts .1) in
       let some = eqb-false (r .left .0) 0 (left .0) in
-      record { within = listener-within (r .listener) .0 (parts .1); left = (omega (arith, some), less-false _ _ .0 (left .1)) }),
+      record { within = listener-within (r .listener) .0 (parts .0); left = (omega (arith, some), less-false _ _ .0 (left .1)) }),
   (λ t.
       let some = t .left .0 in
       either-false _ _ .1 (
-        either-false _ _ .1 (ne-eqb (r .left .0) 0 (λ e. omega (arith, some, e)), less-false _ _ .1 (t .left .1)),
         listener-within (r .listener) .1 (t .within),
+        either-false _ _ .1 (ne-eqb (r .left .0) 0 (λ e. omega (arith, some, e)), less-false _ _ .1 (t .left .1)),
       )),
 )

@@ -8,4 +8,4 @@ use Rattle.receiver.specs.declared.Receiver.{Receiver}
 
 -- 13: some field lies outside its range.
 unfoldable pub receiverOutside : Receiver → Bool
-receiverOutside r = either (leftOutside (r .listener .phase) (r .left .0)) (listenerOutside (r .listener))
+receiverOutside r = either (listenerOutside (r .listener)) (leftOutside (r .listener .phase) (r .left .0))

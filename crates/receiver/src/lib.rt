@@ -35,10 +35,10 @@ impl Receiver {
     {
         let listener = self.listener;
         let phase = listener.phase;
-        if countdown::is_outside(phase, self.left) {
+        if listener.is_outside() {
             return true;
         }
-        listener.is_outside()
+        countdown::is_outside(phase, self.left)
     }
 
     // What a pulse leads to: `wait` is the high before it, `low` its own length. A chip that has ended stays so.

@@ -1,4 +1,4 @@
--- `Receiver::is_outside` tests what is left, then the listener.
+-- `Receiver::is_outside` tests the listener, then what is left.
 -- Assumes nothing.
 use Rattle.terms.proofs.Refusals.{walk}
 use Rattle.receiver.specs.Ranges.{receiverOutside}
