@@ -87,6 +87,14 @@ module _ (g : ℕ) (trace : List ℕ) (at : ℕ) where
     pub going-cut : length trace ≤ next → number g (drop at trace) ≡ bad
     going-cut h = sym (k .reads) ∙ ap (grown value scale) (ap (number left) (drop-of-length-le trace h) ∙ number-none left)
 
+    -- A group's part, and all that is read before it, is below the next group's scale.
+    part-fits : (group : ℕ) → group < 128 → group * scale + value < scale * 128
+    part-fits group h =
+        let a : group * scale ≡ scale * group = mul-comm group scale in
+        let less : group ≤ 127 = omega arith in
+        let b : scale * group ≤ scale * 127 = mul-le-mul-left scale less in
+        omega (arith, a, b, k .fits)
+
     module _ (some : 0 < left) where
       pub going-room : scale * 128 ≤ 128 ^ g
       going-room =
@@ -97,14 +105,12 @@ module _ (g : ℕ) (trace : List ℕ) (at : ℕ) where
           let s : scale * 128 ≤ scale * 128 ^ left = mul-le-mul-left scale r in
           omega (arith, s, k .whole)
 
-      -- A group's part, and all that is read with it, is below what so many groups can be.
+      -- So it is below what so many groups can be.
       pub going-part : (group : ℕ) → group < 128 → group * scale + value < 128 ^ g
       going-part group h =
-          let a : group * scale ≡ scale * group = mul-comm group scale in
-          let less : group ≤ 127 = omega arith in
-          let b : scale * group ≤ scale * 127 = mul-le-mul-left scale less in
+          let p = part-fits group h in
           let r = going-room in
-          omega (arith, a, b, r, k .fits)
+          omega (arith, p, r)
 
       module _ (group : ℕ) (h : next < length trace) (e : group ≡ getD trace next 0) where
         split : drop next trace ≡ group ∷ drop (next + 1) trace
@@ -129,11 +135,7 @@ module _ (g : ℕ) (trace : List ℕ) (at : ℕ) where
         pub going-more : 128 ≤ group → group < 256 → Going (value + (group - 128) * scale) (scale * 128) (next + 1) (left - 1)
         going-more high byte = record {
           inside = omega arith;
-          fits =
-              let a : (group - 128) * scale ≡ scale * (group - 128) = mul-comm (group - 128) scale in
-              let less : group - 128 ≤ 127 = omega arith in
-              let b : scale * (group - 128) ≤ scale * 127 = mul-le-mul-left scale less in
-              omega (arith, a, b, k .fits);
+          fits = let p = part-fits (group - 128) (omega arith) in omega (arith, p);
           whole =
               let one : suc (left - 1) ≡ left = sym (add-one (left - 1)) ∙ omega arith in
               mul-assoc scale 128 (128 ^ (left - 1))
@@ -146,11 +148,11 @@ module _ (g : ℕ) (trace : List ℕ) (at : ℕ) where
         }
 
 -- What is answered.
-placed-below : (m v size : ℕ) (rest : List ℕ) (t : Bool) → placed size (when t (found v rest) bad)
+placed-below : (v size : ℕ) (rest : List ℕ) (t : Bool) → placed size (when t (found v rest) bad)
     ≡ when t (Value (record { value = v; next = record { 0 = size - length rest } })) Bad
 unfolding when
-placed-below m v size rest true = refl
-placed-below m v size rest false = refl
+placed-below v size rest true = refl
+placed-below v size rest false = refl
 
 module _ (g m : ℕ) (trace : List ℕ) (at : ℕ) where
   pub at-end : length trace ≤ at → End ≡ numberAt g m trace at
@@ -169,5 +171,5 @@ module _ (g m : ℕ) (trace : List ℕ) (at : ℕ) where
         let past : length trace - length (drop next trace) ≡ next = omega (arith, length-drop next trace) in
         sym (when-false _ _ (lt-leb (length trace) at h)
         ∙ ap (λ (x : Reading). placed (length trace) (below m x)) e
-        ∙ placed-below m v (length trace) (drop next trace) (ltb v m)
+        ∙ placed-below v (length trace) (drop next trace) (ltb v m)
         ∙ ap (λ (n : ℕ). limited m v n) past)

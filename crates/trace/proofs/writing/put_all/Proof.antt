@@ -43,11 +43,7 @@ loop-again : tie.Need-loop-again Inv-loop μ-loop
 loop-again c = search filling-more
 
 same-length : tie.Need-same-length Inv-loop μ-loop
-same-length c =
-    let l = c .before .loop in
-    let a = c .before .before .before .before .args in
-    let ns = a .numbers .now in
-    l .inv .same ∙ simp length-set
+same-length c = c .before .loop .inv .same ∙ simp length-set
 
 returns : tie.Need-returns Inv-loop μ-loop
 returns c = search (filling-place, filling-done)
