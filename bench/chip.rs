@@ -63,6 +63,8 @@ pub struct Chip {
     size: u32,
     pub phase: Phase,
     left: u32,
+    one: Option<i64>,
+    zero: Option<i64>,
 }
 
 pub const MEMORY: usize = 32_768;
@@ -164,7 +166,7 @@ impl Chip {
         if fault.outside() {
             return Err(12);
         }
-        Ok(Chip { fault, threshold: 0, command: 0, size: 0, phase: Phase::First, left: FIRST_BUDGET })
+        Ok(Chip { fault, threshold: 0, command: 0, size: 0, phase: Phase::First, left: FIRST_BUDGET, one: None, zero: None })
     }
 
     // A phase at whose start the countdown is set again.
@@ -200,6 +202,22 @@ impl Chip {
                 Phase::Ended(Ending::Launched | Ending::Off) => self.command < 1,
                 Phase::Ended(Ending::Booted | Ending::Shut) => false,
             }
+            || self.one.is_some_and(|near| near >= 0)
+            || self.zero.is_some_and(|near| near < 0)
+    }
+
+    // The bit of a low, and the nearer distance kept on its side.
+    fn read(&mut self, low: u32) -> bool {
+        let distance = i64::from(low) - i64::from(self.threshold);
+        let bit = distance < 0;
+        if bit {
+            if self.one.is_none_or(|near| near < distance) {
+                self.one = Some(distance);
+            }
+        } else if self.zero.is_none_or(|near| distance < near) {
+            self.zero = Some(distance);
+        }
+        bit
     }
 
     pub fn step(mut self, ram: &mut [u8], eeprom: &mut [u8], wait: u32, low: u32) -> Result<(Chip, Seen), u8> {
@@ -237,7 +255,6 @@ impl Chip {
     }
 
     fn hear(&mut self, ram: &mut [u8], eeprom: &mut [u8], low: u32) -> Seen {
-        let bit = low < self.threshold;
         match self.phase {
             Phase::First => self.phase = Phase::Second(low),
             Phase::Second(first) => {
@@ -245,7 +262,7 @@ impl Chip {
                 self.phase = Phase::Handshake(1);
             }
             Phase::Handshake(k) => {
-                if bit != draw(k) {
+                if self.read(low) != draw(k) {
                     self.boot(ram, eeprom);
                 } else if k < 250 {
                     self.phase = Phase::Handshake(k + 1);
@@ -260,14 +277,32 @@ impl Chip {
             Phase::Rest(Reply::Connection(k)) if k < 257 => self.begin(Phase::Answer(Reply::Connection(k + 1))),
             Phase::Rest(Reply::Connection(_)) => self.begin(Phase::Command(0, 0)),
             Phase::Rest(Reply::Acknowledging(acknowledgement)) => self.acknowledged(acknowledgement, ram, eeprom),
-            Phase::Command(bits, so_far) if bits < 31 => self.phase = Phase::Command(bits + 1, grown(so_far, bit)),
-            Phase::Command(_, so_far) => self.received_command(grown(so_far, bit)),
-            Phase::Size(bits, so_far) if bits < 31 => self.phase = Phase::Size(bits + 1, grown(so_far, bit)),
-            Phase::Size(_, so_far) => self.received_size(grown(so_far, bit)),
-            Phase::Long(bits, k, so_far) if bits < 31 => self.phase = Phase::Long(bits + 1, k, grown(so_far, bit)),
-            Phase::Long(_, k, so_far) => self.received_long(k, grown(so_far, bit), ram),
+            Phase::Command(bits, so_far) => {
+                let value = grown(so_far, self.read(low));
+                if bits < 31 {
+                    self.phase = Phase::Command(bits + 1, value);
+                } else {
+                    self.received_command(value);
+                }
+            }
+            Phase::Size(bits, so_far) => {
+                let value = grown(so_far, self.read(low));
+                if bits < 31 {
+                    self.phase = Phase::Size(bits + 1, value);
+                } else {
+                    self.received_size(value);
+                }
+            }
+            Phase::Long(bits, k, so_far) => {
+                let value = grown(so_far, self.read(low));
+                if bits < 31 {
+                    self.phase = Phase::Long(bits + 1, k, value);
+                } else {
+                    self.received_long(k, value, ram);
+                }
+            }
             Phase::Align(acknowledgement) => {
-                if !bit {
+                if !self.read(low) {
                     self.begin(Phase::Answer(Reply::Acknowledging(acknowledgement)));
                 }
             }
@@ -435,6 +470,12 @@ fn main() {
         _ => "listening",
     };
     println!("chip {ending}");
+    for (name, near) in [("one", chip.one), ("zero", chip.zero)] {
+        match near {
+            None => println!("nothing read"),
+            Some(distance) => println!("nearest {name} {}", distance.unsigned_abs()),
+        }
+    }
     println!("ram {}", sum(&ram[1..]));
     println!("eeprom {}", sum(&eeprom[1..]));
 }

@@ -9,12 +9,14 @@ use chip::Chip;
 use chip::Stepped;
 use eeprom::Fault;
 use listener::Listener;
+use margins::Margins;
 use phases::Acknowledgement;
 use phases::Ending;
 use phases::Phase;
 use phases::Reply;
 use receiver::Receiver;
 use units::Bytes;
+use units::Distance;
 use units::Longs;
 use units::Loops;
 
@@ -46,8 +48,31 @@ fn chip(line: &[u8]) -> Chip {
         receiver: Receiver {
             listener: listener(line),
             left: Loops(small(line, words::LEFT, 250_000)),
+            margins: margins(line),
         },
     }
+}
+
+// A side that the case does not name was not read.
+fn margins(line: &[u8]) -> Margins {
+    Margins {
+        one: distance(line, words::ONE_BELOW, words::ONE_ABOVE, Margins::NONE.one),
+        zero: distance(
+            line,
+            words::ZERO_BELOW,
+            words::ZERO_ABOVE,
+            Margins::NONE.zero,
+        ),
+    }
+}
+
+fn distance(line: &[u8], below: u32, above: u32, otherwise: Distance) -> Distance {
+    let threshold = Loops(small(line, below, 0));
+    let low = Loops(small(line, above, 0));
+    if said(line, below) || said(line, above) {
+        return low.minus(threshold);
+    }
+    otherwise
 }
 
 fn fault(line: &[u8]) -> Fault {

@@ -49,8 +49,16 @@ pub(crate) const SERIAL: u32 = 22;
 
 pub(crate) const LEFT: u32 = 23;
 
+pub(crate) const ONE_BELOW: u32 = 24;
+
+pub(crate) const ONE_ABOVE: u32 = 25;
+
+pub(crate) const ZERO_BELOW: u32 = 26;
+
+pub(crate) const ZERO_ABOVE: u32 = 27;
+
 // The first number of a case, whatever is before it.
-pub(crate) const FIRST: u32 = 24;
+pub(crate) const FIRST: u32 = 28;
 
 const UNSAID: u64 = u64::MAX;
 
@@ -79,6 +87,10 @@ pub(crate) fn number(line: &[u8], word: u32, otherwise: u64) -> u64 {
         host in \n\
         serial in \n\
         left \n\
+        one -\n\
+        one \n\
+        zero -\n\
+        zero \n\
         \n";
     cases::number(line, cases::line(words, word), otherwise)
 }

@@ -22,6 +22,8 @@ use Rattle.listener.specs.Heard.{inPhase, withThreshold, withCommand, withSize,
 use Rattle.listener.specs.Heard.{afterDraw, compared, afterConnection, stored, verified, acknowledged, replied}
 use Rattle.listener.specs.Heard.{receivedCommand, receivedSize, receivedLong, readCommand, readSize, readLong, aligned, heard}
 use Rattle.listener.specs.Settled.{failed, settled}
+use Rattle.margins.specs.Margins.{unread}
+use Rattle.margins.proofs.Sides.{with-pulse-sides}
 use Rattle.receiver.specs.Hears.{hears}
 use Rattle.receiver.specs.Hears as receiver
 use Rattle.countdown.specs.Countdown.{late, counting, mostLeft}
@@ -41,8 +43,9 @@ fresh-within = record { timely = omega arith; known = omega arith; short = omega
 pub fresh-timed : Timed (record {
   listener = record { threshold = record { 0 = 0 }; command = 0; size = record { 0 = 0 }; phase = First };
   left = record { 0 = 375000 };
+  margins = unread;
 })
-fresh-timed = record { within = fresh-within; left = (omega arith, omega arith) }
+fresh-timed = record { within = fresh-within; left = (omega arith, omega arith); margins = record { one = refl; zero = refl } }
 
 -- A pulse leads within the ranges, whether its work goes well or not.
 pub record Settles (h : Heard) : Type 0 where
@@ -302,6 +305,7 @@ step-timed r wait low good t =
       within = settled-within (afterLate l (l .phase)) good (late-settles l (t .within) (l .phase) (t .within .had));
       left =
           left-settled 0 bit (l .phase) (afterLate l (l .phase)) good (late-then l 0 bit (l .phase)) left left some (omega arith) most;
+      margins = t .margins;
     })
     (λ e.
     let timely : wait + low < left = leb-false left (wait + low) e in
@@ -312,4 +316,5 @@ step-timed r wait low good t =
       left =
           left-settled low bit (l .phase) (heard l (l .phase) low bit) good (heard-then l low bit (l .phase)) left (left - wait - low)
           (omega (arith, timely)) (omega (arith, timely)) most;
+      margins = with-pulse-sides (r .margins) (t .margins) (l .phase) (l .threshold .0) low;
     })

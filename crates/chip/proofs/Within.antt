@@ -11,6 +11,7 @@ use Rattle.phases.specs.Ranges.{phaseOutside}
 use Rattle.listener.specs.Ranges.{listenerOutside}
 use Rattle.listener.specs.declared.Listener.{Listener}
 use Rattle.countdown.specs.Countdown.{mostLeft, leftOutside}
+use Rattle.margins.proofs.Sides.{Sides, within-sides}
 use Rattle.receiver.specs.Ranges.{receiverOutside}
 use Rattle.receiver.specs.declared.Receiver.{Receiver}
 use Rattle.receiver.proofs.Left.{May}
@@ -44,19 +45,28 @@ listener-within l = (
 pub record Timed (r : Receiver) : Type 0 where
   pub within : Within (r .listener)
   pub left : May (mostLeft (r .listener .phase)) (r .left .0)
+  pub margins : Sides (r .margins)
 
 pub receiver-within : (r : Receiver) → (receiverOutside r ≡ false) ↔ Timed r
 unfolding receiverOutside leftOutside
 receiver-within r = (
   (λ q.
       let parts = either-false _ _ .0 q in
-      let left = either-false _ _ .0 (parts .1) in
+      let rest = either-false _ _ .0 (parts .1) in
+      let left = either-false _ _ .0 (rest .0) in
       let some = eqb-false (r .left .0) 0 (left .0) in
-      record { within = listener-within (r .listener) .0 (parts .0); left = (omega (arith, some), less-false _ _ .0 (left .1)) }),
+      record {
+        within = listener-within (r .listener) .0 (parts .0);
+        left = (omega (arith, some), less-false _ _ .0 (left .1));
+        margins = within-sides (r .margins) .0 (rest .1);
+      }),
   (λ t.
       let some = t .left .0 in
       either-false _ _ .1 (
         listener-within (r .listener) .1 (t .within),
-        either-false _ _ .1 (ne-eqb (r .left .0) 0 (λ e. omega (arith, some, e)), less-false _ _ .1 (t .left .1)),
+        either-false _ _ .1 (
+          either-false _ _ .1 (ne-eqb (r .left .0) 0 (λ e. omega (arith, some, e)), less-false _ _ .1 (t .left .1)),
+          within-sides (r .margins) .1 (t .margins),
+        ),
       )),
 )

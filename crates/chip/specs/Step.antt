@@ -10,6 +10,7 @@ use Rattle.terms.specs.Refusals.{Row, Answer, refused, taken, _given-when_, fir
 use Rattle.units.specs.Line.{Line, told}
 use Rattle.phases.specs.Phases.{ended}
 use Rattle.phases.specs.declared.Phase.the-variants.{First}
+use Rattle.margins.specs.Margins.{unread}
 use Rattle.receiver.specs.Hears.{hears, settled}
 use Rattle.receiver.specs.Ranges.{receiverOutside}
 use Rattle.receiver.specs.declared.Received.{Received}
@@ -29,6 +30,7 @@ fresh fault = record {
   receiver = record {
     listener = record { threshold = record { 0 = 0 }; command = 0; size = record { 0 = 0 }; phase = First };
     left = record { 0 = 375000 };
+    margins = unread;
   };
 }
 

@@ -5,6 +5,7 @@ use chip::Played;
 use chip::Started;
 use chip::Stepped;
 use eeprom::Fault;
+use margins::Margin;
 use phases::ChipEnd;
 use phases::Ending;
 use units::Loops;
@@ -79,6 +80,20 @@ fn print(end: Progress) {
     match chip.end() {
         ChipEnd::Listening => say(b"chip listening\n"),
         ChipEnd::Ended(ending) => print_ending(ending),
+    }
+    let receiver = chip.receiver;
+    let margins = receiver.margins;
+    let nearest = margins.nearest();
+    let one = nearest.one;
+    let zero = nearest.zero;
+    print_margin(b"nearest one ", one);
+    print_margin(b"nearest zero ", zero);
+}
+
+fn print_margin(name: &[u8], margin: Margin) {
+    match margin {
+        Margin::None => say(b"nothing read\n"),
+        Margin::At(distance) => line(name, distance.size()),
     }
 }
 

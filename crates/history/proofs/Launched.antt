@@ -22,7 +22,7 @@ use Rattle.history.specs.History.{State, Played, started, stepped}
 use Rattle.history.proofs.Known.{Launching, Known, KnownOf}
 use Rattle.history.proofs.Next.{next}
 
-start-fresh : (ram eeprom : List ℕ) (fault : Fault) (c : Chip) → chipStart ram eeprom fault ≡ taken c → c ≡ fresh fault
+pub start-fresh : (ram eeprom : List ℕ) (fault : Fault) (c : Chip) → chipStart ram eeprom fault ≡ taken c → c ≡ fresh fault
 unfolding chipStart
 start-fresh ram eeprom fault c e = taken-exactly (fresh fault) c (startRows ram eeprom fault) .0 e .1
 

@@ -1,2 +1,3 @@
 pub mod Download
 pub mod History
+pub mod Margins

@@ -9,9 +9,8 @@ use Rattle.place.specs.declared.Ending.{Ending}
 use Rattle.place.specs.declared.Ending.the-variants.{Lost}
 use Rattle.place.specs.Endings as host
 use Rattle.place.proofs.Endings.{numbered, numbered-number}
-use Rattle.phases.specs.Endings.{toldEnd}
-use Rattle.phases.specs.declared.ChipEnd.{ChipEnd}
 use Rattle.phases.proofs.Endings.{backEnd, back-told-end}
+use Rattle.margins.proofs.Unique as margins
 use Rattle.joined.specs.Run.{Outcome, Left, toldRan}
 use Rattle.joined.specs.declared.Ran.{Ran}
 use Rattle.joined.specs.declared.Ran.the-variants as ran
@@ -32,21 +31,22 @@ backRan = back ran.Refused (λ o. ran.Finished (record {
   risen = o .risen;
   host = endingOf (o .host);
   chip = backEnd (o .chip);
+  nearest = margins.back (o .nearest);
 }))
 
 pub back-told-ran : (r : Ran) → backRan (toldRan r) ≡ r
 back-told-ran (ran.Refused n) = refl
 back-told-ran (ran.Finished r) =
-    let with : Ending → ChipEnd → Ran = λ h c. ran.Finished (record {
+    λ i. ran.Finished (record {
       pulses = r .pulses;
       ones = r .ones;
       zeros = r .zeros;
       ticks = r .ticks;
       risen = r .risen;
-      host = h;
-      chip = c;
-    }) in
-    ap (λ (h : Ending). with h (backEnd (toldEnd (r .chip)))) (numbered-number (r .host)) ∙ ap (with (r .host)) (back-told-end (r .chip))
+      host = numbered-number (r .host) i;
+      chip = back-told-end (r .chip) i;
+      nearest = margins.back-told (r .nearest) i;
+    })
 
 pub run-one : OneOutcome run-kinds.ps run-kinds.r run.Post {X = Leaves Ran}
     (λ κs r e. record { answer = r; ram = now (e .1 .1 .1 .1 .1 .1 .1 .0); eeprom = now (e .1 .1 .1 .1 .1 .1 .1 .1 .0) })

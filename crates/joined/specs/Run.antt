@@ -1,4 +1,4 @@
--- 01, "Host joined to chip" and the lines of `planned`: a whole run.
+-- 01, "Host joined to chip" and the lines of `planned`, and 02, "Four": a whole run.
 -- Assumes nothing.
 use mathlib.Core.List.{List}
 use Prim.Native.Nat.{ℕ}
@@ -9,6 +9,7 @@ use Rattle.host.specs.Step.{hostStart}
 use Rattle.host.specs.declared.Host.{Host}
 use Rattle.host.specs.declared.Sent.{Sent}
 use Rattle.phases.specs.Endings as phases
+use Rattle.margins.specs.Margins as margins
 use Rattle.eeprom.specs.declared.Fault.{Fault}
 use Rattle.chip.specs.Step.{chipStart}
 use Rattle.chip.specs.declared.Chip.{Chip}
@@ -18,7 +19,8 @@ use Rattle.joined.specs.declared.Ran.{Ran}
 use Rattle.joined.specs.declared.Ran.the-variants as ran
 use Rattle.joined.specs.declared.Report.{Report}
 
--- What a run comes to: pulses sent, bits 1, bits 0, the tick of the last rise and its exact time, and where host and chip stand.
+-- What a run comes to: pulses sent, bits 1, bits 0, the tick of the last rise and its exact time, where host and chip stand, and the nearest
+-- low that the chip read on each side.
 pub record Outcome : Type 0 where
   pub pulses : ℕ
   pub ones : ℕ
@@ -27,6 +29,7 @@ pub record Outcome : Type 0 where
   pub risen : ℕ
   pub host : place.End
   pub chip : phases.End
+  pub nearest : margins.Told
 
 abbrev pub outcome : Host → Chip → ℕ → ℕ → Outcome
 outcome host chip rise risen = record {
@@ -37,6 +40,7 @@ outcome host chip rise risen = record {
   risen = risen;
   host = place.endAt (host .session .place .phase);
   chip = phases.endAt (chip .receiver .listener .phase);
+  nearest = margins.nearest (chip .receiver .margins);
 }
 
 -- What a run leaves: its answer, and both memories.
@@ -79,6 +83,7 @@ toldReport r = record {
   risen = r .risen;
   host = place.ended (place.number (r .host));
   chip = phases.toldEnd (r .chip);
+  nearest = margins.told (r .nearest);
 }
 
 abbrev pub toldRan : Ran → Answer Outcome

@@ -12,14 +12,15 @@ use chip::Started;
 use eeprom::Fault;
 use host::Begun;
 use host::Host;
+use margins::Nearest;
 use phases::ChipEnd;
 use place::Ending;
 use place::HostEnd;
 use units::Seen;
 use units::Ticks;
 
-// What a run came to: the pulses sent, the bits 1 and 0 among them, the tick of the last rise and its exact time, in ps, and both
-// endings.
+// What a run came to: the pulses sent, the bits 1 and 0 among them, the tick of the last rise and its exact time, in ps, both endings,
+// and the nearest 1 and 0 that the chip read.
 pub struct Report {
     pub pulses: u32,
     pub ones: u32,
@@ -28,6 +29,7 @@ pub struct Report {
     pub risen: u64,
     pub host: Ending,
     pub chip: ChipEnd,
+    pub nearest: Nearest,
 }
 
 // What `run` answers: a refusal by its number, or what the run came to.
@@ -87,6 +89,8 @@ fn reported(end: Joined) -> Report
     let host = end.host;
     let session = host.session;
     let chip = end.chip;
+    let receiver = chip.receiver;
+    let margins = receiver.margins;
     let ticks = end.rise;
     Report {
         pulses: session.pulses,
@@ -96,6 +100,7 @@ fn reported(end: Joined) -> Report
         risen: end.risen,
         host: ending(host.end()),
         chip: chip.end(),
+        nearest: margins.nearest(),
     }
 }
 

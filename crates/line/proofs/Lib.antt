@@ -1,1 +1,2 @@
+pub mod Distances
 pub mod Unique

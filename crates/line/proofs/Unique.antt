@@ -15,7 +15,7 @@ pub threshold-one : OneAnswer threshold-kinds.ps threshold-kinds.r threshold.Pos
 threshold-one κs a r₁ r₂ e₁ e₂ p q = λ i. record { 0 = (p ∙ sym q) i }
 
 pub reads-one : OneAnswer reads-kinds.ps reads-kinds.r reads.Post
-reads-one κs a r₁ r₂ e₁ e₂ p q = p ∙ sym q
+reads-one κs a r₁ r₂ e₁ e₂ p q = λ i. record { distance = record { 0 = (p .1 ∙ sym (q .1)) i }; bit = (p .0 ∙ sym (q .0)) i }
 
 pub grown-one : OneAnswer grown-kinds.ps grown-kinds.r grown.Post
 grown-one κs a r₁ r₂ e₁ e₂ p q = p ∙ sym q

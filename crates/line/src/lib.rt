@@ -1,10 +1,17 @@
 // What passes on the line: how the chip reads a low, and the bits that it replies.
 ghost use mathlib.Core.Path.{_≡_};
-ghost use Rattle.line.specs.Reading.{grown, reads, thresholdOf};
+ghost use Rattle.line.specs.Reading.{distanceOf, grown, reads, thresholdOf};
 ghost use Rattle.line.specs.Replies.{acknowledgedBit, connectionBit, replyBit};
 use phases::Acknowledgement;
 use phases::Reply;
+use units::Distance;
 use units::Loops;
+
+// A low as it was read: its bit, and how far from the threshold it lies.
+pub struct Read {
+    pub distance: Distance,
+    pub bit: bool,
+}
 
 const DRAWS: u32 = 250;
 
@@ -18,11 +25,16 @@ pub fn threshold(first: Loops, second: Loops) -> Loops
     Loops(((first.0 as u64 + second.0 as u64) / 2) as u32)
 }
 
-// The bit of a low: 1 below the threshold.
-pub fn reads(threshold: Loops, low: Loops) -> bool
-    ensures { λ r. ⌜ r ≡ reads (threshold .0) (low .0) ⌝ }
+// A low below the threshold is 1: its distance is negative.
+pub fn reads(threshold: Loops, low: Loops) -> Read
+    ensures { λ r. ⌜ r .bit ≡ reads (threshold .0) (low .0) ⌝ }
+    ensures { λ r. ⌜ r .distance .0 ≡ distanceOf (threshold .0) (low .0) ⌝ }
 {
-    low.0 < threshold.0
+    let distance = low.minus(threshold);
+    Read {
+        distance,
+        bit: distance.is_negative(),
+    }
 }
 
 // A value with one bit more. They come low bit first: each is shifted in from the top, so that 32 of them are the value.

@@ -1,9 +1,11 @@
 // Plans the image on standard input by the bench figures that it is given as arguments, T H P LOOP COMMAND, plays it to a chip whose EEPROM
-// has no fault, and prints what came of it: the lines of `planned` and the exact seconds, or the number of a refusal.
+// has no fault, and prints what came of it: the lines of `planned`, the exact seconds and the margins, or the number of a refusal.
 use eeprom::Fault;
 use figures::Figure;
 use joined::Ran;
 use joined::Report;
+use margins::Margin;
+use margins::Nearest;
 use phases::ChipEnd;
 use phases::Ending;
 
@@ -77,6 +79,8 @@ fn print(report: Report) {
     let chip = report.chip;
     print_chip(chip);
     print_seconds(report.risen);
+    let nearest = report.nearest;
+    print_margins(nearest);
 }
 
 fn print_chip(chip: ChipEnd) {
@@ -110,6 +114,26 @@ fn print_seconds(time: u64) {
     let n = io::decimal(NS_PER_S + ns % NS_PER_S, &mut text);
     say(&text[1..n]);
     say(b"\n");
+}
+
+// How many loops the nearest 1 lay from the threshold, and the nearest 0.
+fn print_margins(nearest: Nearest) {
+    let one = nearest.one;
+    let zero = nearest.zero;
+    say(b"margins ");
+    print_margin(one);
+    say(b" ");
+    print_margin(zero);
+    say(b"\n");
+}
+
+fn print_margin(margin: Margin) {
+    match margin {
+        Margin::None => say(b"none"),
+        Margin::At(distance) => {
+            io::print_decimal(1, distance.size());
+        }
+    }
 }
 
 fn line(name: &[u8], n: u64) {

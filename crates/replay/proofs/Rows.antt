@@ -11,11 +11,10 @@ use Rattle.chip.specs.Step.{fresh, startRows, chipStart, toldStarted}
 use Rattle.chip.specs.declared.Chip.{Chip}
 use Rattle.chip.specs.declared.Started.{Started}
 use Rattle.chip.specs.declared.Started.the-variants as started
-use Rattle.phases.specs.Endings.{End, endAt}
 use Rattle.trace.specs.Traces.{isFaulty, listOf, numbersOf, fileRows, judgement, toldJudged}
 use Rattle.trace.specs.declared.Judged.{Judged}
 use Rattle.trace.specs.declared.Judged.the-variants as judged
-use Rattle.replay.specs.Replay.{state, played, left, finished, unlessRefused, replayRows, replayOf}
+use Rattle.replay.specs.Replay.{state, played, Outcome, outcome, left, finished, unlessRefused, replayRows, replayOf}
 
 module _ (trace : List ℕ) (fault : Fault) (ram eeprom : List ℕ) (s : Started) (p : toldStarted s ≡ chipStart ram eeprom fault) where
   pub start-refused : (n : ℕ) → s ≡ started.Refused n → left (refused n) ram eeprom ≡ replayOf trace fault ram eeprom
@@ -43,11 +42,11 @@ module _ (trace : List ℕ) (fault : Fault) (ram eeprom : List ℕ) (s : Started
       pub file-sound : isFaulty (numbersOf trace) ≡ false
       file-sound = clear .1 .0
 
-      pub replay-finished : (end : Chip) (ram′ eeprom′ : List ℕ) (e : End)
+      pub replay-finished : (end : Chip) (ram′ eeprom′ : List ℕ) (o : Outcome)
           → state end ram′ eeprom′ ≡ played (listOf (numbersOf trace)) (state c ram eeprom)
-          → e ≡ endAt (end .receiver .listener .phase) → left (taken e) ram′ eeprom′ ≡ replayOf trace fault ram eeprom
+          → o ≡ outcome end → left (taken o) ram′ eeprom′ ≡ replayOf trace fault ram eeprom
       unfolding replayOf
-      replay-finished end ram′ eeprom′ e k t =
-          ap (λ (x : End). left (taken x) ram′ eeprom′) t
+      replay-finished end ram′ eeprom′ o k t =
+          ap (λ (x : Outcome). left (taken x) ram′ eeprom′) t
           ∙ ap finished (k ∙ ap (λ (x : Chip). played (listOf (numbersOf trace)) (state x ram eeprom)) (past .1))
           ∙ sym (ap (unlessRefused fault ram eeprom) (past .0 ∙ clear-taken (listOf (numbersOf trace)) (fileRows trace) clear))

@@ -1,4 +1,4 @@
--- 02, "Three": "a replay through the chip model that reports the ending".
+-- 02, "Three": "a replay through the chip model that reports the ending"; and "Four": with the nearest low on each side.
 -- Assumes nothing.
 use mathlib.Core.List.{List, [], _∷_, _++_}
 use Prim.Native.Nat.{ℕ}
@@ -8,12 +8,14 @@ use Rattle.units.specs.Units.{loopsOf}
 use Rattle.phases.specs.Endings.{End, endAt, toldEnd}
 use Rattle.phases.specs.Phases.{ended}
 use Rattle.eeprom.specs.declared.Fault.{Fault}
+use Rattle.margins.specs.Margins as margins
 use Rattle.chip.specs.Step.{Reply, fresh, startRows, chipStep}
 use Rattle.chip.specs.Step as step
 use Rattle.chip.specs.declared.Chip.{Chip}
 use Rattle.trace.specs.Traces.{listOf, numbersOf, fileRows}
 use Rattle.replay.specs.declared.Replayed.{Replayed}
 use Rattle.replay.specs.declared.Replayed.the-variants as replayed
+use Rattle.replay.specs.declared.Report.{Report}
 
 -- A chip with its memories.
 pub record State : Type 0 where
@@ -42,18 +44,25 @@ played [] s = s
 played (w ∷ []) s = s
 played (w ∷ l ∷ ns) s = when (ended (s .chip .receiver .listener .phase)) s (played ns (listened s (loopsOf w) (loopsOf l)))
 
+-- What a replay comes to: the chip's ending, "a trace that ends before the chip does reports 'listening'", and its margins.
+pub record Outcome : Type 0 where
+  pub chip : End
+  pub nearest : margins.Told
+
+abbrev pub outcome : Chip → Outcome
+outcome c = record { chip = endAt (c .receiver .listener .phase); nearest = margins.nearest (c .receiver .margins) }
+
 -- What a replay leaves: its answer, and both memories.
 pub record Left : Type 0 where
-  pub answer : Answer End
+  pub answer : Answer Outcome
   pub ram : List ℕ
   pub eeprom : List ℕ
 
-abbrev pub left : Answer End → List ℕ → List ℕ → Left
+abbrev pub left : Answer Outcome → List ℕ → List ℕ → Left
 left answer ram eeprom = record { answer = answer; ram = ram; eeprom = eeprom }
 
--- The chip's ending; "a trace that ends before the chip does reports 'listening'".
 abbrev pub finished : State → Left
-finished s = left (taken (endAt (s .chip .receiver .listener .phase))) (s .ram) (s .eeprom)
+finished s = left (taken (outcome (s .chip))) (s .ram) (s .eeprom)
 
 -- The rows of a replay: the start of the chip, 10 to 12, then the file, 17 to 19.
 abbrev pub replayRows : List ℕ → Fault → List ℕ → List ℕ → List Row
@@ -68,7 +77,10 @@ unfoldable pub replayOf : List ℕ → Fault → List ℕ → List ℕ → Left
 replayOf trace fault ram eeprom =
     unlessRefused fault ram eeprom (first (replayRows trace fault ram eeprom) (listOf (numbersOf trace)))
 
--- What the answer tells: the number of a refusal, otherwise where the chip stands.
-abbrev pub toldReplayed : Replayed → Answer End
+-- What the answers tell: the number of a refusal, otherwise what the replay came to.
+abbrev pub toldReport : Report → Outcome
+toldReport r = record { chip = toldEnd (r .chip); nearest = margins.told (r .nearest) }
+
+abbrev pub toldReplayed : Replayed → Answer Outcome
 toldReplayed (replayed.Refused n) = refused n
-toldReplayed (replayed.Finished e) = taken (toldEnd e)
+toldReplayed (replayed.Finished r) = taken (toldReport r)

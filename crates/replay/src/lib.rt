@@ -1,6 +1,6 @@
 // Recorded traces, played to a chip.
 ghost use mathlib.Core.Path.{_≡_};
-ghost use Rattle.replay.specs.Replay.{left, replayOf, toldReplayed};
+ghost use Rattle.replay.specs.Replay.{left, outcome, replayOf, toldReplayed, toldReport};
 
 mod playing;
 mod pulses;
@@ -8,13 +8,20 @@ mod pulses;
 use chip::Chip;
 use chip::Started;
 use eeprom::Fault;
+use margins::Nearest;
 use phases::ChipEnd;
 use trace::Judged;
 
-// What `replay` answers: a refusal by its number, or how the chip ended, or that it still listens.
+// What a replay came to: how the chip ended, or that it still listens, and the nearest 1 and 0 that it read.
+pub struct Report {
+    pub chip: ChipEnd,
+    pub nearest: Nearest,
+}
+
+// What `replay` answers: a refusal by its number, or what the replay came to.
 pub enum Replayed {
     Refused(u8),
-    Finished(ChipEnd),
+    Finished(Report),
 }
 
 // Plays a trace to a fresh chip, until the chip has ended or the trace. The refusals of the chip's start, 10 to 12, come before those
@@ -27,9 +34,20 @@ pub fn replay(trace: &[u8], fault: Fault, ram: &mut [u8], eeprom: &mut [u8]) -> 
         Started::Taken(chip) => match trace::judge(trace) {
             Judged::Good => {
                 let end = playing::play(chip, trace, ram, eeprom);
-                Replayed::Finished(end.end())
+                Replayed::Finished(reported(end))
             }
             Judged::Refused(n) => Replayed::Refused(n),
         },
+    }
+}
+
+fn reported(chip: Chip) -> Report
+    ensures { λ r. ⌜ toldReport r ≡ outcome chip ⌝ }
+{
+    let receiver = chip.receiver;
+    let margins = receiver.margins;
+    Report {
+        chip: chip.end(),
+        nearest: margins.nearest(),
     }
 }

@@ -1,13 +1,16 @@
-// Plays the trace on standard input to a fresh chip, over RAM of zeros and an EEPROM without a fault, and prints where that leaves the chip,
-// or the number of a refusal. The EEPROM is zeros too; where a number is given as an argument it is that many bytes of standard input, and
-// the trace is what follows them.
+// Plays the trace on standard input to a fresh chip, over RAM of zeros and an EEPROM without a fault, and prints where that leaves the chip
+// and its margins, or the number of a refusal. The EEPROM is zeros too; where a number is given as an argument it is that many bytes of
+// standard input, and the trace is what follows them.
 ghost use mathlib.Core.Path.{_≡_};
 ghost use lib.ListN.{length};
 use eeprom::Fault;
 use figures::Figure;
+use margins::Margin;
+use margins::Nearest;
 use phases::ChipEnd;
 use phases::Ending;
 use replay::Replayed;
+use replay::Report;
 
 // The bytes of the longest trace that is taken.
 const LONGEST: usize = 4_194_304;
@@ -84,7 +87,7 @@ fn play_trace(trace: &[u8], eeprom: &mut [u8]) {
     let mut ram = [0u8; 32_768];
     match replay::replay(trace, Fault::None, &mut ram, eeprom) {
         Replayed::Refused(n) => print_refused(n),
-        Replayed::Finished(end) => print_end(end),
+        Replayed::Finished(report) => print(report),
     }
 }
 
@@ -92,6 +95,13 @@ fn print_refused(n: u8) {
     say(b"refused ");
     io::print_decimal(1, n as u64);
     say(b"\n");
+}
+
+fn print(report: Report) {
+    let end = report.chip;
+    let nearest = report.nearest;
+    print_end(end);
+    print_margins(nearest);
 }
 
 fn print_end(end: ChipEnd) {
@@ -107,6 +117,26 @@ fn print_ending(ending: Ending) {
         Ending::Booted => say(b"booted\n"),
         Ending::Shut => say(b"shut\n"),
         Ending::Off => say(b"off\n"),
+    }
+}
+
+// How many loops the nearest 1 lay from the threshold, and the nearest 0.
+fn print_margins(nearest: Nearest) {
+    let one = nearest.one;
+    let zero = nearest.zero;
+    say(b"margins ");
+    print_margin(one);
+    say(b" ");
+    print_margin(zero);
+    say(b"\n");
+}
+
+fn print_margin(margin: Margin) {
+    match margin {
+        Margin::None => say(b"none"),
+        Margin::At(distance) => {
+            io::print_decimal(1, distance.size());
+        }
     }
 }
 

@@ -22,11 +22,13 @@ use Rattle.place.specs.declared.Phase as host-phase
 use Rattle.phases.specs.Phases as chip
 use Rattle.phases.specs.declared.Phase.{Phase}
 use Rattle.phases.specs.declared.Phase.the-variants.{First, Second, Handshake, Answer, Rest, Command, Size, Long, Align, Ended}
-use Rattle.line.specs.Reading.{reads}
+use Rattle.line.specs.Reading.{reads, distanceOf}
 use Rattle.listener.specs.Heard.{heard}
 use Rattle.listener.specs.Settled.{settled}
 use Rattle.listener.specs.declared.Heard.{Heard}
 use Rattle.countdown.specs.Countdown.{late, aligns, counting}
+use Rattle.margins.specs.Margins.{withPulse}
+use Rattle.margins.specs.declared.Margins.{Margins}
 use Rattle.receiver.specs.Hears.{hears, counted}
 use Rattle.receiver.proofs.Going.{Then, heard-then, settled-goes, settled-counts}
 use Rattle.chip.specs.Work.{done}
@@ -174,7 +176,10 @@ module _ (t h p l : ℕ) (fit : Fit t h p) (loop : Loop l) (margin : Margin t p 
     abbrev rest : ℕ
     rest = left - wait-loops - low-loops
 
-    pulsed-timely : pulsed measured image s ≡ afterIt measured image load s m going listens (counted h′ from rest)
+    abbrev kept : Margins
+    kept = withPulse (s .chip .receiver .margins) from read (distanceOf (s .chip .receiver .listener .threshold .0) low-loops)
+
+    pulsed-timely : pulsed measured image s ≡ afterIt measured image load s m going listens (counted h′ from rest kept)
     unfolding hears
     pulsed-timely =
         pulsed-so measured image load s m going listens

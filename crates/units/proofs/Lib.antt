@@ -1,3 +1,5 @@
 pub mod Conversions
+pub mod Differences
 pub mod Lines
+pub mod Sizes
 pub mod Unique

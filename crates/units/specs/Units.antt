@@ -2,6 +2,7 @@
 -- Assumes nothing.
 use Prim.Native.Nat.{ℕ, _+_, _*_, _/_, min}
 use lib.Dec.{eqb}
+use lib.IntN.{ℤ, pos, _-ℤ_}
 use Rattle.terms.specs.Choice.{when}
 
 -- The largest count of 32 bits, which stands for every larger one too.
@@ -27,3 +28,7 @@ loopsOf n = min n most
 -- The loops of l ps in some ticks of p ps, rounded down. In loops of no length there is no last one, and the count is the largest.
 unfoldable pub loopsIn : ℕ → ℕ → ℕ → ℕ
 loopsIn ticks p l = when (eqb l 0) most (min (ticks * p / l) most)
+
+-- A count of loops less another, with its sign.
+unfoldable pub difference : ℕ → ℕ → ℤ
+difference a b = pos a -ℤ pos b

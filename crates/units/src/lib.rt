@@ -1,14 +1,19 @@
-// The four units that the bench and the ROM count in, and what the host sees on the line. A count crosses from one unit to
-// another by the conversions here and in no other way.
+// The four units that the bench and the ROM count in, how far two counts of loops lie apart, and what the host sees on the line. A count
+// crosses from one unit to another by the conversions here and in no other way.
 ghost use mathlib.Core.Path.{_≡_};
 ghost use Prim.Native.Nat.{min};
-ghost use Rattle.units.specs.Units.{most, longsIn, bytesIn, endOf, loopsOf, loopsIn};
+ghost use lib.IntN.{natAbs, pos};
+ghost use lib.Signed.{ltZ};
+ghost use Rattle.units.specs.Units.{most, longsIn, bytesIn, endOf, loopsOf, loopsIn, difference};
 
 // Ticks of the bench's clock.
 pub struct Ticks(pub u64);
 
 // Loops of the chip's wait for an edge: the ROM counts them in 32 bits.
 pub struct Loops(pub u32);
+
+// A count of loops less another. 64 bits hold it for any two counts.
+pub struct Distance(pub i64);
 
 // Bytes of an image or of a memory.
 pub struct Bytes(pub usize);
@@ -61,6 +66,40 @@ impl Loops {
         ensures { λ r. ⌜ r .0 ≡ loopsOf n ⌝ }
     {
         Loops(counted(n))
+    }
+
+    // These loops less others: negative where they are fewer.
+    pub fn minus(self, others: Loops) -> Distance
+        ensures { λ r. ⌜ r .0 ≡ difference (self .0) (others .0) ⌝ }
+    {
+        let distance = self.0 as i64 - others.0 as i64;
+        Distance(distance)
+    }
+}
+
+impl Distance {
+    // Whether the count was fewer than the other.
+    pub fn is_negative(self) -> bool
+        ensures { λ r. ⌜ r ≡ ltZ (self .0) (pos 0) ⌝ }
+    {
+        self.0 < 0
+    }
+
+    // Whether it is less than another.
+    pub fn is_below(self, other: Distance) -> bool
+        ensures { λ r. ⌜ r ≡ ltZ (self .0) (other .0) ⌝ }
+    {
+        self.0 < other.0
+    }
+
+    // How far it is, without its sign. A negative one is taken from -1, since no 64 bits hold the least one's opposite.
+    pub fn size(self) -> u64
+        ensures { λ r. ⌜ r ≡ natAbs (self .0) ⌝ }
+    {
+        if self.is_negative() {
+            return (-1 - self.0) as u64 + 1;
+        }
+        self.0 as u64
     }
 }
 

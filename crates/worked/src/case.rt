@@ -1,4 +1,5 @@
 // What a case says. It is a load of S by command 1, with the figures of 01's program, but for what its line says.
+use crate::reading;
 use crate::stepped;
 use crate::whole;
 use eeprom::Fault;
@@ -47,9 +48,14 @@ pub(crate) const TO: u32 = 19;
 
 pub(crate) const STOPPED: u32 = 20;
 
-// A case with a pulse, or with a byte that is sent as another, is stepped.
+pub(crate) const THRESHOLD: u32 = 21;
+
+// A case with a threshold is a low that is read. One with a pulse, or with a byte that is sent as another, is stepped.
 pub(crate) fn run(line: &[u8]) {
     io::write_all(1, line);
+    if says(line, THRESHOLD) {
+        return reading::case(line);
+    }
     if says(line, PULSE) {
         return stepped::case(line);
     }
@@ -90,7 +96,8 @@ fn said(line: &[u8], name: u32, otherwise: u64) -> u64 {
         low \n\
         seen \n\
         to \n\
-        stopped after \n";
+        stopped after \n\
+        threshold \n";
     cases::number(line, cases::line(names, name), otherwise)
 }
 

@@ -3,6 +3,7 @@
 // is a heading, printed as it is.
 mod case;
 mod print;
+mod reading;
 mod sample;
 mod stepped;
 mod whole;

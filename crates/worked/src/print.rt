@@ -1,8 +1,12 @@
 // The parts of a line.
 use joined::Ran;
+use line::Read;
+use margins::Margin;
+use margins::Nearest;
 use phases::ChipEnd;
 use phases::Ending;
 use place::HostEnd;
+use units::Distance;
 
 // What is printed, each by its place on the list of words.
 const REFUSED: u32 = 0;
@@ -33,6 +37,14 @@ const OFF: u32 = 12;
 
 pub(crate) const TOO_LONG: u32 = 13;
 
+const MARGINS: u32 = 14;
+
+const NONE: u32 = 15;
+
+const BIT: u32 = 16;
+
+const DISTANCE: u32 = 17;
+
 pub(crate) fn heading(line: &[u8]) {
     io::write_all(1, line);
     io::write_all(1, b"\n");
@@ -52,7 +64,11 @@ pub(crate) fn word(n: u32) {
         \x20chip booted\n\
         \x20chip shut\n\
         \x20chip off\n\
-        the table has more than 32768 bytes\n";
+        the table has more than 32768 bytes\n\
+        \x20margins \n\
+        none\n\
+        : bit \n\
+        \x20distance \n";
     io::write_all(1, cases::line(words, n));
 }
 
@@ -72,7 +88,9 @@ pub(crate) fn ran(ran: Ran) {
             let host = report.host;
             number(HOST, host.number() as u64);
             let end = report.chip;
+            let nearest = report.nearest;
             chip(end);
+            margins(nearest);
         }
     }
 }
@@ -94,6 +112,38 @@ pub(crate) fn chip(end: ChipEnd) {
             Ending::Off => word(OFF),
         },
     }
+}
+
+// The nearest 1 and the nearest 0.
+pub(crate) fn margins(nearest: Nearest) {
+    let one = nearest.one;
+    let zero = nearest.zero;
+    word(MARGINS);
+    margin(one);
+    io::write_all(1, b" ");
+    margin(zero);
+}
+
+fn margin(margin: Margin) {
+    match margin {
+        Margin::None => word(NONE),
+        Margin::At(distance) => signed(distance),
+    }
+}
+
+// A low that was read.
+pub(crate) fn read(read: Read) {
+    number(BIT, read.bit as u64);
+    word(DISTANCE);
+    signed(read.distance);
+    io::write_all(1, b"\n");
+}
+
+fn signed(distance: Distance) {
+    if distance.is_negative() {
+        io::write_all(1, b"-");
+    }
+    io::print_decimal(1, distance.size());
 }
 
 // The plain sums of both memories.

@@ -196,4 +196,7 @@ fn stopped(session: Session, chip: Chip) {
     let phase = place.phase;
     print::host(phase.end());
     print::chip(chip.end());
+    let receiver = chip.receiver;
+    let margins = receiver.margins;
+    print::margins(margins.nearest());
 }

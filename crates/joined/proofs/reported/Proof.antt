@@ -3,8 +3,6 @@
 use mathlib.Core.Path.{ap, _∙_}
 use Rattle.place.specs.Endings as host
 use Rattle.place.proofs.Endings.{not-going}
-use Rattle.phases.specs.Endings as chip
-use Rattle.joined.specs.Run.{Outcome}
 use borrow.Author.Needs.{needs}
 use Rattle.joined.proofs.reported.Statement.{statement}
 use Rattle.joined.proofs.reported.Tie as tie
@@ -14,27 +12,32 @@ end-requires c κs = search needs
 
 ending-requires : tie.Need-ending-requires
 ending-requires c κs =
-    let start = c .before .before .before .before .before in
+    let start = c .before .before .before .before .before .before .before in
     not-going (c .end .result) (start .args .end .host .session .place .phase) (c .end .ensures) (start .pre)
 
 end-requires-2 : tie.Need-end-requires-2
 end-requires-2 c κs = search needs
 
+nearest-requires : tie.Need-nearest-requires
+nearest-requires c κs = search needs
+
 returns : tie.Need-returns
 returns c =
-    let a = c .before .before .before .before .before .before .before .args .end in
-    let with : host.End → chip.End → Outcome = λ h e. record {
+    let chip = c .before in
+    let a = chip .before .before .before .before .before .before .before .before .before .args .end in
+    let ended = ap host.toldEnd (chip .before .ending .ensures) ∙ chip .before .before .end .ensures in
+    λ i. record {
       pulses = a .host .session .pulses;
       ones = a .host .session .ones;
       zeros = a .host .session .zeros;
       ticks = a .rise .0;
       risen = a .risen;
-      host = h;
-      chip = e;
-    } in
-    let ended = ap host.toldEnd (c .before .ending .ensures) ∙ c .before .before .end .ensures in
-    ap (λ (h : host.End). with h (chip.toldEnd (c .end2 .result))) ended
-    ∙ ap (with (host.endAt (a .host .session .place .phase))) (c .end2 .ensures)
+      host = ended i;
+      chip = chip .end2 .ensures i;
+      nearest = c .nearest .ensures i;
+    }
 
 pub reported-spec : {M : Type 1} → statement M
-reported-spec = tie.close (tie.spec end-requires ending-requires end-requires-2 returns)
+reported-spec =
+    tie.close
+    (tie.spec end-requires ending-requires end-requires-2 nearest-requires returns)

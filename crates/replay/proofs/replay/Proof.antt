@@ -23,8 +23,8 @@ enum-told c = search needs
 play-requires : tie.Need-play-requires
 play-requires c κs = search file-sound
 
-end-requires : tie.Need-end-requires
-end-requires c κs = search needs
+reported-requires : tie.Need-reported-requires
+reported-requires c κs = search needs
 
 enum-known-n-2 : tie.Need-enum-known-n-2
 enum-known-n-2 c = search needs
@@ -66,7 +66,7 @@ replay-spec =
     judge-requires
     enum-told
     play-requires
-    end-requires
+    reported-requires
     enum-known-n-2
     same-length
     same-length-2

@@ -23,6 +23,9 @@ returns c = rw (c .counted .ensures, c .before .timed-out .ensures) (search (lat
 reads-requires : tie.Need-reads-requires
 reads-requires c κs = search needs
 
+with-pulse-requires : tie.Need-with-pulse-requires
+with-pulse-requires c κs = search needs
+
 hears-requires : tie.Need-hears-requires
 hears-requires c κs = search needs
 
@@ -32,8 +35,10 @@ counted-requires-2 c κs = search needs
 returns-2 : tie.Need-returns-2
 unfolding hears
 returns-2 c =
-    let spent = c .before .before .before .before .before .drawn .ensures in
-    rw (c .counted2 .ensures, c .before .hears .ensures, c .before .before .reads .ensures, spent) (search (late-drawn, walk) depth 12)
+    let read = c .before .before .before in
+    let spent = read .before .before .before .drawn .ensures in
+    rw (c .counted2 .ensures, c .before .hears .ensures, c .before .before .with-pulse .ensures, read .reads .ensures .0, read .reads .ensures .1, spent)
+    (search (late-drawn, walk) depth 12)
 
 pub hears-spec : {M : Type 1} → statement M
 hears-spec =
@@ -44,6 +49,7 @@ hears-spec =
     counted-requires
     returns
     reads-requires
+    with-pulse-requires
     hears-requires
     counted-requires-2
     returns-2)
