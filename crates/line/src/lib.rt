@@ -1,5 +1,7 @@
 // What passes on the line: how the chip reads a low, and the bits that it replies.
 ghost use mathlib.Core.Path.{_≡_};
+ghost use lib.IntN.{pos};
+ghost use lib.Signed.{ltZ};
 ghost use Rattle.line.specs.Reading.{distanceOf, grown, reads, thresholdOf};
 ghost use Rattle.line.specs.Replies.{acknowledgedBit, connectionBit, replyBit};
 use phases::Acknowledgement;
@@ -33,8 +35,14 @@ pub fn reads(threshold: Loops, low: Loops) -> Read
     let distance = low.minus(threshold);
     Read {
         distance,
-        bit: distance.is_negative(),
+        bit: is_negative(distance),
     }
+}
+
+fn is_negative(distance: Distance) -> bool
+    ensures { λ r. ⌜ r ≡ ltZ (distance .0) (pos 0) ⌝ }
+{
+    distance.0 < 0
 }
 
 // A value with one bit more. They come low bit first: each is shifted in from the top, so that 32 of them are the value.

@@ -1,5 +1,6 @@
 // How near a chip's lows came to being misread: of those read on each side of the threshold, the nearest.
 ghost use mathlib.Core.Path.{_≡_};
+ghost use lib.Signed.{ltZ};
 ghost use Rattle.margins.specs.Margins.{marginsOutside, nearerOne, nearerZero, nearest, nearestOne, nearestZero, readsBit, told, toldMargin, withBit, withPulse};
 use line::Read;
 use phases::Phase;
@@ -24,6 +25,9 @@ pub struct Margins {
     pub zero: Distance,
 }
 
+// The distance of the threshold itself, which a 0 may have.
+const THRESHOLD: Distance = Distance(0);
+
 // No 1 is so far, and no 0.
 const NO_ONE: Distance = Distance(i64::MIN);
 
@@ -42,10 +46,10 @@ impl Margins {
     {
         let one = self.one;
         let zero = self.zero;
-        if !one.is_negative() {
+        if !is_less(one, THRESHOLD) {
             return true;
         }
-        zero.is_negative()
+        is_less(zero, THRESHOLD)
     }
 
     // The margins after a timely pulse, heard in a phase.
@@ -72,7 +76,7 @@ impl Margins {
 fn nearest_one(one: Distance) -> Margin
     ensures { λ r. ⌜ toldMargin r ≡ nearestOne (one .0) ⌝ }
 {
-    if NO_ONE.is_below(one) {
+    if is_less(NO_ONE, one) {
         return Margin::At(one);
     }
     Margin::None
@@ -81,7 +85,7 @@ fn nearest_one(one: Distance) -> Margin
 fn nearest_zero(zero: Distance) -> Margin
     ensures { λ r. ⌜ toldMargin r ≡ nearestZero (zero .0) ⌝ }
 {
-    if zero.is_below(NO_ZERO) {
+    if is_less(zero, NO_ZERO) {
         return Margin::At(zero);
     }
     Margin::None
@@ -127,7 +131,7 @@ fn with_bit(margins: Margins, read: Read) -> Margins
 fn nearer_one(near: Distance, distance: Distance) -> Distance
     ensures { λ r. ⌜ r .0 ≡ nearerOne (near .0) (distance .0) ⌝ }
 {
-    if near.is_below(distance) {
+    if is_less(near, distance) {
         return distance;
     }
     near
@@ -137,8 +141,14 @@ fn nearer_one(near: Distance, distance: Distance) -> Distance
 fn nearer_zero(near: Distance, distance: Distance) -> Distance
     ensures { λ r. ⌜ r .0 ≡ nearerZero (near .0) (distance .0) ⌝ }
 {
-    if distance.is_below(near) {
+    if is_less(distance, near) {
         return distance;
     }
     near
+}
+
+fn is_less(a: Distance, b: Distance) -> bool
+    ensures { λ r. ⌜ r ≡ ltZ (a .0) (b .0) ⌝ }
+{
+    a.0 < b.0
 }

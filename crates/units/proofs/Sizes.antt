@@ -27,12 +27,15 @@ module _ (z : ℤ) (f : SFits w64 z) where
   held : as-held ≡ z
   held = toZ-ofZ f
 
-  module _ (e : ltZ z (pos 0) ≡ true) where
+  module _ (e : ltZ as-held (pos 0) ≡ true) where
+    below : ltZ z (pos 0) ≡ true
+    below = ap (λ (x : ℤ). ltZ x (pos 0)) (sym held) ∙ e
+
     abbrev from : ℤ
     from = negsuc 0 -ℤ as-held
 
     from-is : from ≡ pos (mag z)
-    from-is = ap (λ (x : ℤ). negsuc 0 -ℤ x) held ∙ one-less z e .0
+    from-is = ap (λ (x : ℤ). negsuc 0 -ℤ x) held ∙ one-less z below .0
 
     pub from-fits : SFits w64 from
     from-fits = subst (SFits w64) (sym from-is) (record { sfits = f .sfits })
@@ -49,14 +52,13 @@ module _ (z : ℤ) (f : SFits w64 z) where
     from-more = let h = f .sfits in subst (λ (x : ℤ). Fits w64 (natAbs x + 1)) (sym from-held) (record { fits = omega (arith, h) })
 
     pub from-size : natAbs (toZ w64 (ofZ w64 from)) + 1 ≡ natAbs z
-    from-size = ap (λ (x : ℤ). natAbs x + 1) from-held ∙ one-less z e .1
+    from-size = ap (λ (x : ℤ). natAbs x + 1) from-held ∙ one-less z below .1
 
-  module _ (e : ltZ z (pos 0) ≡ false) where
-    pub held-cast : T (nonNeg as-held) × Fits w64 (natAbs as-held)
-    held-cast =
-        let h = f .sfits in
-        let n = not-negative z e in
-        subst (λ (x : ℤ). T (nonNeg x) × Fits w64 (natAbs x)) (sym held) (n .0, record { fits = omega (arith, h, n .1) })
+  pub held-cast : ltZ as-held (pos 0) ≡ false → T (nonNeg as-held) × Fits w64 (natAbs as-held)
+  held-cast e =
+      let h = f .sfits in
+      let n = not-negative z (ap (λ (x : ℤ). ltZ x (pos 0)) (sym held) ∙ e) in
+      subst (λ (x : ℤ). T (nonNeg x) × Fits w64 (natAbs x)) (sym held) (n .0, record { fits = omega (arith, h, n .1) })
 
   pub held-size : natAbs as-held ≡ natAbs z
   held-size = ap natAbs held

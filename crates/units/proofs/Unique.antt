@@ -4,10 +4,6 @@ use mathlib.Core.Path.{sym, _∙_}
 use Rattle.terms.proofs.Answers.{OneAnswer}
 use Rattle.units.proofs.Bytes.to_longs.Kinds as to-longs-kinds
 use Rattle.units.proofs.Bytes.to_longs.Reads as to-longs
-use Rattle.units.proofs.Distance.is_below.Kinds as is-below-kinds
-use Rattle.units.proofs.Distance.is_below.Reads as is-below
-use Rattle.units.proofs.Distance.is_negative.Kinds as is-negative-kinds
-use Rattle.units.proofs.Distance.is_negative.Reads as is-negative
 use Rattle.units.proofs.Distance.size.Kinds as size-kinds
 use Rattle.units.proofs.Distance.size.Reads as size
 use Rattle.units.proofs.Longs.to_bytes.Kinds as to-bytes-kinds
@@ -38,12 +34,6 @@ of-one κs a r₁ r₂ e₁ e₂ p q = λ i. record { 0 = (p ∙ sym q) i }
 
 pub minus-one : OneAnswer minus-kinds.ps minus-kinds.r minus.Post
 minus-one κs a r₁ r₂ e₁ e₂ p q = λ i. record { 0 = (p ∙ sym q) i }
-
-pub is-negative-one : OneAnswer is-negative-kinds.ps is-negative-kinds.r is-negative.Post
-is-negative-one κs a r₁ r₂ e₁ e₂ p q = p ∙ sym q
-
-pub is-below-one : OneAnswer is-below-kinds.ps is-below-kinds.r is-below.Post
-is-below-one κs a r₁ r₂ e₁ e₂ p q = p ∙ sym q
 
 pub size-one : OneAnswer size-kinds.ps size-kinds.r size.Post
 size-one κs a r₁ r₂ e₁ e₂ p q = p ∙ sym q

@@ -2,8 +2,7 @@
 // crosses from one unit to another by the conversions here and in no other way.
 ghost use mathlib.Core.Path.{_≡_};
 ghost use Prim.Native.Nat.{min};
-ghost use lib.IntN.{natAbs, pos};
-ghost use lib.Signed.{ltZ};
+ghost use lib.IntN.{natAbs};
 ghost use Rattle.units.specs.Units.{most, longsIn, bytesIn, endOf, loopsOf, loopsIn, difference};
 
 // Ticks of the bench's clock.
@@ -78,25 +77,11 @@ impl Loops {
 }
 
 impl Distance {
-    // Whether the count was fewer than the other.
-    pub fn is_negative(self) -> bool
-        ensures { λ r. ⌜ r ≡ ltZ (self .0) (pos 0) ⌝ }
-    {
-        self.0 < 0
-    }
-
-    // Whether it is less than another.
-    pub fn is_below(self, other: Distance) -> bool
-        ensures { λ r. ⌜ r ≡ ltZ (self .0) (other .0) ⌝ }
-    {
-        self.0 < other.0
-    }
-
     // How far it is, without its sign. A negative one is taken from -1, since no 64 bits hold the least one's opposite.
     pub fn size(self) -> u64
         ensures { λ r. ⌜ r ≡ natAbs (self .0) ⌝ }
     {
-        if self.is_negative() {
+        if self.0 < 0 {
             return (-1 - self.0) as u64 + 1;
         }
         self.0 as u64

@@ -119,15 +119,15 @@ pub(crate) fn margins(nearest: Nearest) {
     let one = nearest.one;
     let zero = nearest.zero;
     word(MARGINS);
-    margin(one);
+    margin(one, true);
     io::write_all(1, b" ");
-    margin(zero);
+    margin(zero, false);
 }
 
-fn margin(margin: Margin) {
+fn margin(margin: Margin, bit: bool) {
     match margin {
         Margin::None => word(NONE),
-        Margin::At(distance) => signed(distance),
+        Margin::At(distance) => signed(distance, bit),
     }
 }
 
@@ -135,12 +135,13 @@ fn margin(margin: Margin) {
 pub(crate) fn read(read: Read) {
     number(BIT, read.bit as u64);
     word(DISTANCE);
-    signed(read.distance);
+    signed(read.distance, read.bit);
     io::write_all(1, b"\n");
 }
 
-fn signed(distance: Distance) {
-    if distance.is_negative() {
+// The distance of a 1 is negative.
+fn signed(distance: Distance, bit: bool) {
+    if bit {
         io::write_all(1, b"-");
     }
     io::print_decimal(1, distance.size());
