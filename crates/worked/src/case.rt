@@ -1,4 +1,5 @@
 // What a case says. It is a load of S by command 1, with the figures of 01's program, but for what its line says.
+use crate::fed;
 use crate::reading;
 use crate::stepped;
 use crate::whole;
@@ -50,11 +51,19 @@ pub(crate) const STOPPED: u32 = 20;
 
 pub(crate) const THRESHOLD: u32 = 21;
 
-// A case with a threshold is a low that is read. One with a pulse, or with a byte that is sent as another, is stepped.
+pub(crate) const SIZE: u32 = 22;
+
+pub(crate) const D: u32 = 23;
+
+// A case with a threshold is a low that is read, and one with a size is fed to a chip. One with a pulse, or with a byte that is sent as
+// another, is stepped.
 pub(crate) fn run(line: &[u8]) {
     io::write_all(1, line);
     if says(line, THRESHOLD) {
         return reading::case(line);
+    }
+    if says(line, SIZE) {
+        return fed::case(line);
     }
     if says(line, PULSE) {
         return stepped::case(line);
@@ -97,7 +106,9 @@ fn said(line: &[u8], name: u32, otherwise: u64) -> u64 {
         seen \n\
         to \n\
         stopped after \n\
-        threshold \n";
+        threshold \n\
+        size \n\
+        d \n";
     cases::number(line, cases::line(names, name), otherwise)
 }
 

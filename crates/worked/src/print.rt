@@ -7,6 +7,7 @@ use phases::ChipEnd;
 use phases::Ending;
 use place::HostEnd;
 use units::Distance;
+use units::Seen;
 
 // What is printed, each by its place on the list of words.
 const REFUSED: u32 = 0;
@@ -45,6 +46,10 @@ const BIT: u32 = 16;
 
 const DISTANCE: u32 = 17;
 
+const REPLY: u32 = 18;
+
+const BY_PLACE: u32 = 19;
+
 pub(crate) fn heading(line: &[u8]) {
     io::write_all(1, line);
     io::write_all(1, b"\n");
@@ -68,7 +73,9 @@ pub(crate) fn word(n: u32) {
         \x20margins \n\
         none\n\
         : bit \n\
-        \x20distance \n";
+        \x20distance \n\
+        : reply \n\
+        \x20by place \n";
     io::write_all(1, cases::line(words, n));
 }
 
@@ -147,9 +154,42 @@ fn signed(distance: Distance, bit: bool) {
     io::print_decimal(1, distance.size());
 }
 
+// What the chip replies, where it does.
+pub(crate) fn reply(reply: Seen) {
+    match reply {
+        Seen::Silence => return,
+        Seen::Zero => number(REPLY, 0),
+        Seen::One => number(REPLY, 1),
+    }
+}
+
 // The plain sums of both memories.
 pub(crate) fn sums(ram: &[u8], eeprom: &[u8]) {
     number(RAM, lent::total(ram));
+    eeprom_sum(eeprom);
+}
+
+// The same, with a sum of the RAM that tells where its bytes stand.
+pub(crate) fn sums_by_place(ram: &[u8; 32_768], eeprom: &[u8; 32_768]) {
+    number(RAM, lent::total(ram));
+    number(BY_PLACE, by_place(ram));
+    eeprom_sum(eeprom);
+}
+
+fn eeprom_sum(eeprom: &[u8]) {
     number(EEPROM, lent::total(eeprom));
     io::write_all(1, b"\n");
+}
+
+// The sum after each byte, all of them added up.
+fn by_place(bytes: &[u8]) -> u64 {
+    let mut sum = 0;
+    let mut sums = 0;
+    let mut at = 0;
+    while at < bytes.len() {
+        sum = std::num::wrapping_add_u64(sum, bytes[at] as u64);
+        sums = std::num::wrapping_add_u64(sums, sum);
+        at += 1;
+    }
+    sums
 }

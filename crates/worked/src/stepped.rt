@@ -19,11 +19,11 @@ use units::Seen;
 const MOST_PULSES: u32 = 2_634;
 
 // The loops of a wait, and of the lows of a 1 and of a 0.
-const WAIT: u32 = 8;
+pub(crate) const WAIT: u32 = 8;
 
-const ONE: u32 = 8;
+pub(crate) const ONE: u32 = 8;
 
-const ZERO: u32 = 17;
+pub(crate) const ZERO: u32 = 17;
 
 // What the host sees by `seen silent`, which has no number; and where a case measures its pulses, what the chip replied.
 const SILENT: u32 = 2;
@@ -96,7 +96,7 @@ fn seen(line: &[u8]) -> u32 {
     number(line, case::SEEN, SILENT)
 }
 
-fn chosen(bit: bool, one: u32, zero: u32) -> Loops {
+pub(crate) fn chosen(bit: bool, one: u32, zero: u32) -> Loops {
     if bit {
         return Loops(one);
     }

@@ -42,7 +42,7 @@ pub(crate) fn case(line: &[u8]) {
 }
 
 // S with a byte of another value. Byte 0 of S is 0.
-fn image(line: &[u8]) -> [u8; 32_768]
+pub(crate) fn image(line: &[u8]) -> [u8; 32_768]
     ensures { λ r. ⌜ 32768 ≡ length r ⌝ }
 {
     let mut image = sample::eeprom();
