@@ -4,26 +4,20 @@
 use mathlib.Core.Bool.{true}
 use mathlib.Core.List.{List, [], _∷_, _++_, append-assoc}
 use mathlib.Core.Path.{_≡_, refl, sym, ap, _∙_}
-use Prim.Native.Nat.{ℕ, zero, suc, _+_, _-_, _*_, _%_, _<_, _≤_}
-use native.Mathlib.Nat.{zero-add}
+use Prim.Native.Nat.{ℕ, _+_, _-_, _*_, _%_, _<_, _≤_}
 use native.Mathlib.Omega.{arith}
 use lib.ListN.{length, take, drop, replicate, length-append, length-drop, length-replicate, replicate-append-replicate, List·getD-append}
 use lib.Seq.{take-at, take-all}
 use borrow.Author.Tests.{lt-ltb, eq-eqb}
 use Rattle.terms.proofs.Tests.{when-true}
 use Rattle.lent.specs.Bytes.{wordAt, total}
-use Rattle.lent.proofs.Totals.{total-append}
+use Rattle.lent.proofs.Totals.{total-append, total-zeros}
 use Rattle.load.proofs.Facts.{Good}
 use Rattle.ram.specs.Ram.{zeroed, flagAt, flagStored, flaggedBelow, flagged, finished, sumsToZero, launches}
 use Rattle.chip.specs.Work.{loaded}
 use Rattle.conversation.specs.Final.{AllBytes, flag, finalRam}
 use Rattle.conversation.proofs.Loading.{stored-at, overlaid, long-stored}
 use Rattle.conversation.proofs.Longs.{longOf}
-
-total-zeros : (n : ℕ) → total (replicate n 0) ≡ 0
-unfolding total
-total-zeros zero = refl
-total-zeros (suc n) = zero-add _ ∙ total-zeros n
 
 word-in-front : (a b : List ℕ) (at : ℕ) → at + 1 < length a → wordAt (a ++ b) at ≡ wordAt a at
 unfolding wordAt

@@ -1,3 +1,4 @@
 pub mod Stored
+pub mod Sums
 pub mod Turns
 pub mod Unique

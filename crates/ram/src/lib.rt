@@ -28,14 +28,15 @@ pub fn store(ram: &mut [u8], at: Bytes, value: u32)
     ram[at + 3] = (value / 16_777_216) as u8;
 }
 
-// Finishes a load whose longs end at `end`: zeroes the rest, stores the flag longs, and says whether the checksum is good.
+// Finishes a load whose longs end at `end`: zeroes the rest, stores the flag longs, and says whether the checksum is good. The zeros are
+// not read for that: they add nothing.
 pub fn finish(ram: &mut [u8], end: Bytes) -> bool
     ensures { λ _. ⌜ now (ram .exit) ≡ finished (end .0) (now (ram .entry)) ⌝ }
     ensures { λ r. ⌜ r ≡ sumsToZero (finished (end .0) (now (ram .entry))) ⌝ }
 {
+    let sum = flags::sum_before(ram, end.0);
     flags::zero_from(ram, end.0);
-    flags::store_both(ram);
-    lent::sum(ram) == 0
+    flags::store_both(ram, sum) == 0
 }
 
 // Whether the RAM launches: the word at 6 is 16.

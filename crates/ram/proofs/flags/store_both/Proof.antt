@@ -30,7 +30,8 @@ returns c =
     let second = c .before .before in
     let first = second .before .before .before .before .before in
     let d = first .before .before .before .word .ensures in
-    rw (second .store-flag2 .ensures, second .before .flag-at2 .ensures, first .store-flag .ensures, first .before .flag-at .ensures, d) refl
+    let last = second .store-flag2 .ensures in
+    (rw (last .0, second .before .flag-at2 .ensures, first .store-flag .ensures .0, first .before .flag-at .ensures, d) refl, last .1)
 
 pub store-both-spec : {M : Type 1} → statement M
 store-both-spec =
