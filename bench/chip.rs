@@ -73,6 +73,7 @@ const PAGES: u32 = 512;
 const FIRST_BUDGET: u32 = 375_000;
 const BUDGET: u32 = 250_000;
 const FLAGS: u32 = 0xFFF9_FFFF;
+const FLAGS_SUM: u8 = 246;
 
 const STATES: [u8; 255] = states();
 
@@ -389,17 +390,19 @@ fn launch(ram: &[u8], ending: Ending) -> Phase {
     Phase::Ended(if launches(ram) { ending } else { Ending::Shut })
 }
 
-// Zeroes the rest, stores the flag longs, and says whether the checksum is good.
+// Zeroes the rest, stores the flag longs, and says whether the checksum is good, without reading the zeros.
 fn finish(ram: &mut [u8], end: usize) -> bool {
+    let mut all = sum(&ram[..end]);
     ram[end..].fill(0);
     let d = word(ram, 10);
     for below in [4, 8] {
         let at = (d.wrapping_sub(below) & !3) as usize;
         if at < MEMORY {
+            all = all.wrapping_sub(sum(&ram[at..at + 4])).wrapping_add(FLAGS_SUM);
             store(ram, at, FLAGS);
         }
     }
-    sum(ram) == 0
+    all == 0
 }
 
 const PULSES: u32 = 262_924;

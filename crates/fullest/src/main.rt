@@ -34,13 +34,14 @@ const LOW_OF_ONE: Loops = Loops(8);
 
 const LOW_OF_ZERO: Loops = Loops(17);
 
-// The chip, the pulses that it took, the replies that it gave, and the number of its last refusal, or 0.
+// The chip, the pulses that it took, the replies that it gave, and the number of its last refusal, or 0: as wide as the others, so that no
+// padding is copied at each pulse.
 struct Progress {
     chip: Chip,
     pulses: u32,
     zeros: u32,
     ones: u32,
-    refused: u8,
+    refused: u32,
 }
 
 fn main() {
@@ -136,7 +137,7 @@ fn one(mut progress: Progress, low: Loops, ram: &mut [u8], eeprom: &mut [u8]) ->
     let chip = progress.chip;
     match chip.step(ram, eeprom, WAIT, low) {
         Stepped::Refused(n) => {
-            progress.refused = n;
+            progress.refused = n as u32;
             progress
         }
         Stepped::Taken(played) => counted(progress, played),
