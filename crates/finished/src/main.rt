@@ -1,5 +1,6 @@
 // Finishes a load in RAM, and prints the RAM's total, and whether the checksum is good. On standard input is a byte, and then what was
-// stored. Where that byte is `-` the load is not finished, so that what finishing takes can be counted: bench/finish does.
+// stored, of which no more is read than fills the RAM. Where that byte is `-` the load is not finished, so that what finishing takes can be
+// counted: bench/finish does.
 use units::Bytes;
 
 fn main() {
