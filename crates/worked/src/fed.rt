@@ -29,6 +29,7 @@ pub(crate) fn case(line: &[u8]) {
     let mut ram = [1u8; 32_768];
     lay(&mut ram, d);
     let mut eeprom = sample::eeprom();
+    io::write_all(1, b":");
     feed(number(line, case::SIZE, 0), &image, &mut ram, &mut eeprom);
     print::sums_by_place(&ram, &eeprom);
 }

@@ -74,7 +74,7 @@ pub(crate) fn word(n: u32) {
         none\n\
         : bit \n\
         \x20distance \n\
-        : reply \n\
+        \x20reply \n\
         \x20by place \n";
     io::write_all(1, cases::line(words, n));
 }

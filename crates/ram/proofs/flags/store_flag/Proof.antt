@@ -3,6 +3,7 @@
 use mathlib.Core.List.{List}
 use mathlib.Core.Path.{sym, ap, _∙_}
 use Prim.Native.Nat.{ℕ, _%_}
+use native.Mathlib.Omega.{arith}
 use Rattle.lent.specs.Bytes.{total}
 use Rattle.ram.proofs.Sums.{flag-high, flag-past, flag-low, sum-changes}
 use borrow.Author.Needs.{needs}
@@ -10,13 +11,13 @@ use Rattle.ram.proofs.flags.store_flag.Statement.{statement}
 use Rattle.ram.proofs.flags.store_flag.Tie as tie
 
 returns : tie.Need-returns
-returns c = (sym (flag-high _ _ (c .if1 .taken)), c .before .before .before .pre)
+returns c = (sym (flag-high _ _ (omega (arith, c .if1 .taken))), c .before .before .before .pre)
 
 add-to : tie.Need-add-to
 add-to c = search needs
 
 returns-2 : tie.Need-returns-2
-returns-2 c = (sym (flag-past _ _ (c .if2 .taken)), c .before .before .before .before .pre)
+returns-2 c = (sym (flag-past _ _ (omega (arith, c .if2 .taken))), c .before .before .before .before .pre)
 
 sub-sum : tie.Need-sub-sum
 sub-sum c = search needs
@@ -49,8 +50,8 @@ returns-3 c =
     let tests = summed .before .before .before in
     let start = tests .before .before .before .before in
     let stored = kept .store .ensures in (
-      stored ∙ sym (flag-low _ _ (tests .before .if1 .left)),
-      sum-changes _ _ (tests .if2 .left) _ (summed .sum .result) (c .before .wrapping-sub-u8 .result) _ (start .pre) (summed .sum .ensures)
+      stored ∙ sym (flag-low _ _ (omega (arith, tests .before .if1 .left))),
+      sum-changes _ _ (omega (arith, tests .if2 .left)) _ (summed .sum .result) (c .before .wrapping-sub-u8 .result) _ (start .pre) (summed .sum .ensures)
           (c .before .wrapping-sub-u8 .ensures) (c .wrapping-add-u8 .ensures)
           ∙ ap (λ (l : List ℕ). total l % 256) (sym stored),
     )
