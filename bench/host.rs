@@ -56,6 +56,21 @@ pub struct Place {
     pub index: u32,
 }
 
+// The ticks of each phase so far, in the order in which they come.
+#[derive(Clone, Copy, Default)]
+pub struct PhaseTicks {
+    calibration: u64,
+    handshake: u64,
+    connection: u64,
+    version: u64,
+    command: u64,
+    size: u64,
+    image: u64,
+    ram: u64,
+    programming: u64,
+    verification: u64,
+}
+
 #[derive(Clone, Copy)]
 pub struct Host {
     t: u32,
@@ -64,6 +79,7 @@ pub struct Host {
     load: Load,
     pub place: Place,
     time: u64,
+    phases: PhaseTicks,
     pub pulses: u32,
     pub ones: u32,
     pub zeros: u32,
@@ -243,6 +259,75 @@ impl Place {
     }
 }
 
+impl PhaseTicks {
+    // The ticks from the last rise to a fall, where the ten do not add up past it.
+    fn spacer_before(&self, fall: u64) -> Option<u64> {
+        fall.checked_sub(self.calibration)?
+            .checked_sub(self.handshake)?
+            .checked_sub(self.connection)?
+            .checked_sub(self.version)?
+            .checked_sub(self.command)?
+            .checked_sub(self.size)?
+            .checked_sub(self.image)?
+            .checked_sub(self.ram)?
+            .checked_sub(self.programming)?
+            .checked_sub(self.verification)
+    }
+
+    // More ticks for a phase.
+    fn add(&mut self, phase: Phase, ticks: u64) {
+        match phase {
+            Phase::Calibration => self.calibration += ticks,
+            Phase::Handshake => self.handshake += ticks,
+            Phase::Connection => self.connection += ticks,
+            Phase::Version(_) => self.version += ticks,
+            Phase::Command | Phase::Zeros => self.command += ticks,
+            Phase::Size => self.size += ticks,
+            Phase::Image => self.image += ticks,
+            Phase::Wait(Acknowledgement::Ram) => self.ram += ticks,
+            Phase::Wait(Acknowledgement::Programming) => self.programming += ticks,
+            Phase::Wait(Acknowledgement::Verification) | Phase::Ended(_) => self.verification += ticks,
+        }
+    }
+
+    fn add_before(&mut self, phase: Phase, ticks: u64) {
+        match phase {
+            Phase::Calibration | Phase::Handshake => self.calibration += ticks,
+            Phase::Connection => self.handshake += ticks,
+            Phase::Version(_) => self.connection += ticks,
+            Phase::Command | Phase::Zeros => self.version += ticks,
+            Phase::Size => self.command += ticks,
+            Phase::Image => self.size += ticks,
+            Phase::Wait(Acknowledgement::Ram) => self.image += ticks,
+            Phase::Wait(Acknowledgement::Programming) => self.ram += ticks,
+            Phase::Wait(Acknowledgement::Verification) | Phase::Ended(_) => self.programming += ticks,
+        }
+    }
+
+    // The spacer before a phase's first pulse is of the phase before.
+    fn pulse(&mut self, place: Place, spacer: u64, low: u64) {
+        if place.index == 0 {
+            self.add_before(place.phase, spacer);
+            self.add(place.phase, low);
+        } else {
+            self.add(place.phase, spacer + low);
+        }
+    }
+
+    pub fn print(&self) {
+        println!("calibration {}", self.calibration);
+        println!("handshake {}", self.handshake);
+        println!("connection {}", self.connection);
+        println!("version {}", self.version);
+        println!("command {}", self.command);
+        println!("size {}", self.size);
+        println!("image {}", self.image);
+        println!("ram {}", self.ram);
+        println!("programming {}", self.programming);
+        println!("verification {}", self.verification);
+    }
+}
+
 impl Host {
     pub fn start(t: u32, h: u32, p: u32, command: u32, image: &[u8]) -> Result<Host, u8> {
         if !(4_300..=26_000).contains(&t) {
@@ -264,6 +349,7 @@ impl Host {
             load: Load::new(command, image)?,
             place: Place::START,
             time: 0,
+            phases: PhaseTicks::default(),
             pulses: 0,
             ones: 0,
             zeros: 0,
@@ -292,6 +378,11 @@ impl Host {
         if self.outside() {
             return Err(13);
         }
+        let p = self.p as u64;
+        let fall = self.time / p;
+        let Some(gap) = self.phases.spacer_before(fall) else {
+            return Err(13);
+        };
         if let Phase::Ended(_) = self.place.phase {
             return Err(14);
         }
@@ -302,9 +393,10 @@ impl Host {
         let silent = matches!((self.place.phase, seen), (Phase::Wait(_), Seen::Silence)) && self.place.index % 2 == 1;
         let low = if bit { self.t as u64 } else { self.t as u64 * 2 } * 1_000;
         let spacer = if silent { self.h.max(10_000_000) } else { self.h } as u64 * 1_000;
-        let fall = self.time;
-        let rise = fall + low;
-        self.time = rise + spacer;
+        let risen = self.time + low;
+        let rise = risen / p;
+        self.time = risen + spacer;
+        self.phases.pulse(self.place, gap, rise - fall);
         self.pulses += 1;
         if bit {
             self.ones += 1;
@@ -312,8 +404,7 @@ impl Host {
             self.zeros += 1;
         }
         self.place.follow(planner, &self.load, seen);
-        let p = self.p as u64;
-        Ok(Sent { host: self, fall: fall / p, rise: rise / p })
+        Ok(Sent { host: self, fall, rise })
     }
 }
 
@@ -353,6 +444,7 @@ fn main() {
     println!("zeros {}", host.zeros);
     println!("ticks {last}");
     println!("edges {edges}");
+    host.phases.print();
     match host.place.phase {
         Phase::Ended(ending) => println!("host {}", ending as u8),
         _ => println!("host going on"),

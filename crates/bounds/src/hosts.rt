@@ -18,8 +18,10 @@ use serial::Stepped;
 use serial::Wire;
 use session::Session;
 use settings::Settings;
+use ticks::PhaseTicks;
 use units::Bytes;
 use units::Seen;
+use units::Ticks;
 
 // Each is lent zeros: as many as its load has, where the case says nothing else.
 pub(crate) fn step_host(line: &[u8]) {
@@ -53,7 +55,34 @@ fn host(line: &[u8]) -> Host {
         },
         session: session(line),
         time: number(line, words::TIME, 0),
+        phases: phases(line),
     }
+}
+
+fn phases(line: &[u8]) -> PhaseTicks {
+    PhaseTicks {
+        calibration: ticks(line, 0),
+        handshake: ticks(line, 1),
+        connection: ticks(line, 2),
+        version: ticks(line, 3),
+        command: ticks(line, 4),
+        size: ticks(line, 5),
+        image: ticks(line, 6),
+        ram: ticks(line, 7),
+        programming: ticks(line, 8),
+        verification: ticks(line, 9),
+    }
+}
+
+// The ticks of a phase by its number: a case says them of one, or of two.
+fn ticks(line: &[u8], n: u64) -> Ticks {
+    if number(line, words::TICKED, 10) == n {
+        return Ticks(number(line, words::HAS, 0));
+    }
+    if number(line, words::ALSO, 10) == n {
+        return Ticks(number(line, words::WITH, 0));
+    }
+    Ticks(0)
 }
 
 fn session(line: &[u8]) -> Session {

@@ -57,8 +57,17 @@ pub(crate) const ZERO_BELOW: u32 = 26;
 
 pub(crate) const ZERO_ABOVE: u32 = 27;
 
+// A phase that has ticks, and another one.
+pub(crate) const TICKED: u32 = 28;
+
+pub(crate) const HAS: u32 = 29;
+
+pub(crate) const ALSO: u32 = 30;
+
+pub(crate) const WITH: u32 = 31;
+
 // The first number of a case, whatever is before it.
-pub(crate) const FIRST: u32 = 28;
+pub(crate) const FIRST: u32 = 32;
 
 const UNSAID: u64 = u64::MAX;
 
@@ -91,6 +100,10 @@ pub(crate) fn number(line: &[u8], word: u32, otherwise: u64) -> u64 {
         one \n\
         zero -\n\
         zero \n\
+        phase \n\
+        has \n\
+        and \n\
+        with \n\
         \n";
     cases::number(line, cases::line(words, word), otherwise)
 }

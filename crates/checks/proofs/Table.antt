@@ -7,7 +7,7 @@ use native.Mathlib.Omega.{arith}
 use borrow.Author.Tests.{le-ltb}
 use lib.ListN.{take}
 use Rattle.terms.specs.Choice.{when, either}
-use Rattle.host.specs.Step.{hostStart, late, hostOutside, hostStep}
+use Rattle.host.specs.Step.{hostStart, late, timeOutside, hostOutside, hostStep}
 use Rattle.host.specs.Time.{low, spacer}
 use Rattle.lent.specs.Bytes.{wordAt, total}
 use Rattle.load.specs.Image.{badLength, otherLength, otherStart, badStack, otherSum}
@@ -20,11 +20,12 @@ use Rattle.range.specs.Ranges.{placeOutside}
 use Rattle.sequence.specs.Sequence.{advanced, state, draw, draws}
 use Rattle.session.specs.Ranges.{sessionOutside}
 use Rattle.load.specs.Load.{otherImage}
+use Rattle.ticks.specs.Ticks.{sum, added, holder}
 use Rattle.checks.specs.Sample.{sample}
 use Rattle.checks.specs.Table.{startEdges, Checks}
 
 pub edges : startEdges 3 sample (hostStart 8600 8600 700000 1 sample) ≡ 0 ∷ 12 ∷ 24 ∷ 49 ∷ 61 ∷ 86 ∷ []
-unfolding when either wordAt total outside slow settingsOutside badLength otherLength otherStart badStack otherSum loadOutside onward next placeOutside sessionOutside otherImage low spacer late hostOutside hostStart hostStep draw state sample
+unfolding when either wordAt total outside slow settingsOutside badLength otherLength otherStart badStack otherSum loadOutside onward next placeOutside sessionOutside otherImage low spacer late timeOutside hostOutside sum added holder hostStart hostStep draw state sample
 edges = refl
 
 pub checks : Checks

@@ -2,7 +2,8 @@
 -- Assumes nothing.
 use mathlib.Core.Bool.{Bool, true, false}
 use mathlib.Core.Path.{_≡_}
-use Prim.Native.Nat.{ℕ, _*_, _≤_}
+use Prim.Native.Nat.{ℕ, _*_, _/_, _≤_, _<_}
+use native.Mathlib.Nat.{le-div-iff-mul-le, div-mul-le-self}
 use native.Mathlib.Omega.{arith}
 use borrow.Author.Tests.{ltb-false}
 use Rattle.terms.specs.Choice.{when}
@@ -25,3 +26,7 @@ module _ (s : Settings) (fit : Fit (s .t) (s .h) (s .p)) where
 pub not-late : (pulses time : ℕ) → late pulses time ≡ false → time ≤ pulses * 90052000000
 unfolding late
 not-late pulses time e = ltb-false (pulses * 90052000000) time e
+
+-- A later time has no earlier tick.
+pub tick-on : (x y p : ℕ) → 0 < p → x ≤ y → x / p ≤ y / p
+tick-on x y p some h = le-div-iff-mul-le {k = p} some .1 (omega (arith, div-mul-le-self x p, h))

@@ -12,15 +12,18 @@ use session::Started;
 use session::Stepped;
 use settings::Checked;
 use settings::Settings;
+use ticks::PhaseTicks;
+use ticks::Spacer;
 use units::Seen;
 use units::Ticks;
 
-// A host: the figures of its bench, the session that it sends, and the exact time since the start, in ps, at which the next pulse
-// falls. In a record that has ended the time is the one at which a further pulse would fall.
+// A host: the figures of its bench, the session that it sends, the exact time since the start, in ps, at which the next pulse falls, and
+// the ticks of each phase so far. In a record that has ended the time is the one at which a further pulse would fall.
 pub struct Host {
     pub settings: Settings,
     pub session: Session,
     pub time: u64,
+    pub phases: PhaseTicks,
 }
 
 // What `Host::start` answers: a refusal by its number, or the host before its first pulse.
@@ -56,6 +59,7 @@ impl Host {
                     settings,
                     session,
                     time: 0,
+                    phases: PhaseTicks::NONE,
                 }),
             },
         }
@@ -69,21 +73,30 @@ impl Host {
         if ranges::is_outside(self) {
             return Planned::Refused(13);
         }
-        let session = self.session;
-        match session.step(image, seen) {
-            Stepped::Refused(n) => Planned::Refused(n),
-            Stepped::Sent(pulse) => {
-                let next = pulse.session;
-                let fall = self.time;
-                let rise = fall + time::low(self.settings, pulse.bit);
-                self.session = next;
-                self.time = rise + time::spacer(self.settings, pulse.silent);
-                Planned::Taken(Sent {
-                    host: self,
-                    fall: time::tick(self.settings, fall),
-                    rise: time::tick(self.settings, rise),
-                    risen: rise,
-                })
+        let fall = time::tick(self.settings, self.time);
+        let phases = self.phases;
+        match phases.spacer_before(fall) {
+            Spacer::Past => Planned::Refused(13),
+            Spacer::Of(spacer) => {
+                let session = self.session;
+                match session.step(image, seen) {
+                    Stepped::Refused(n) => Planned::Refused(n),
+                    Stepped::Sent(pulse) => {
+                        let place = session.place;
+                        let next = pulse.session;
+                        let risen = self.time + time::low(self.settings, pulse.bit);
+                        let rise = time::tick(self.settings, risen);
+                        self.session = next;
+                        self.time = risen + time::spacer(self.settings, pulse.silent);
+                        self.phases = phases.with_pulse(place, spacer, Ticks(rise.0 - fall.0));
+                        Planned::Taken(Sent {
+                            host: self,
+                            fall,
+                            rise,
+                            risen,
+                        })
+                    }
+                }
             }
         }
     }

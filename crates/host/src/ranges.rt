@@ -1,6 +1,6 @@
-// The ranges of a host's own fields; its session tests the others.
+// The ranges of a host's settings and time. Its phases and its session test the others.
 ghost use mathlib.Core.Path.{_≡_};
-ghost use Rattle.host.specs.Step.{hostOutside, late};
+ghost use Rattle.host.specs.Step.{late, timeOutside};
 use crate::Host;
 use crate::time::PS_PER_NS;
 use settings::Settings;
@@ -9,7 +9,7 @@ use settings::Settings;
 const LONGEST_LEG: u64 = (2 * Settings::LARGEST_T + Settings::LARGEST_H) as u64 * PS_PER_NS;
 
 pub(crate) fn is_outside(host: Host) -> bool
-    ensures { λ r. ⌜ r ≡ hostOutside host ⌝ }
+    ensures { λ r. ⌜ r ≡ timeOutside host ⌝ }
 {
     if host.settings.is_outside() {
         return true;

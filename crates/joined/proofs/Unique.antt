@@ -29,6 +29,7 @@ backRan = back ran.Refused (λ o. ran.Finished (record {
   zeros = o .zeros;
   ticks = record { 0 = o .ticks };
   risen = o .risen;
+  phases = o .phases;
   host = endingOf (o .host);
   chip = backEnd (o .chip);
   nearest = margins.back (o .nearest);
@@ -43,6 +44,7 @@ back-told-ran (ran.Finished r) =
       zeros = r .zeros;
       ticks = r .ticks;
       risen = r .risen;
+      phases = r .phases;
       host = numbered-number (r .host) i;
       chip = back-told-end (r .chip) i;
       nearest = margins.back-told (r .nearest) i;

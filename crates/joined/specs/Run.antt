@@ -1,4 +1,4 @@
--- 01, "Host joined to chip" and the lines of `planned`, and 02, "Four": a whole run.
+-- 01, "Host joined to chip" and the lines of `planned`, and 02, "Four" and "Six": a whole run.
 -- Assumes nothing.
 use mathlib.Core.List.{List}
 use Prim.Native.Nat.{ℕ}
@@ -8,27 +8,29 @@ use Rattle.place.specs.Endings as place
 use Rattle.host.specs.Step.{hostStart}
 use Rattle.host.specs.declared.Host.{Host}
 use Rattle.host.specs.declared.Sent.{Sent}
-use Rattle.phases.specs.Endings as phases
+use Rattle.phases.specs.Endings as chips
 use Rattle.margins.specs.Margins as margins
 use Rattle.eeprom.specs.declared.Fault.{Fault}
 use Rattle.chip.specs.Step.{chipStart}
 use Rattle.chip.specs.declared.Chip.{Chip}
+use Rattle.ticks.specs.declared.PhaseTicks.{PhaseTicks}
 use Rattle.joined.specs.Joined.{State, Measuring, roundedDown, played, begun}
 use Rattle.joined.specs.declared.Joined.{Joined}
 use Rattle.joined.specs.declared.Ran.{Ran}
 use Rattle.joined.specs.declared.Ran.the-variants as ran
 use Rattle.joined.specs.declared.Report.{Report}
 
--- What a run comes to: pulses sent, bits 1, bits 0, the tick of the last rise and its exact time, where host and chip stand, and the nearest
--- low that the chip read on each side.
+-- What a run comes to: pulses sent, bits 1, bits 0, the tick of the last rise and its exact time, the ticks of each phase, where host and
+-- chip stand, and the nearest low that the chip read on each side.
 pub record Outcome : Type 0 where
   pub pulses : ℕ
   pub ones : ℕ
   pub zeros : ℕ
   pub ticks : ℕ
   pub risen : ℕ
+  pub phases : PhaseTicks
   pub host : place.End
-  pub chip : phases.End
+  pub chip : chips.End
   pub nearest : margins.Told
 
 abbrev pub outcome : Host → Chip → ℕ → ℕ → Outcome
@@ -38,8 +40,9 @@ outcome host chip rise risen = record {
   zeros = host .session .zeros;
   ticks = rise;
   risen = risen;
+  phases = host .phases;
   host = place.endAt (host .session .place .phase);
-  chip = phases.endAt (chip .receiver .listener .phase);
+  chip = chips.endAt (chip .receiver .listener .phase);
   nearest = margins.nearest (chip .receiver .margins);
 }
 
@@ -81,8 +84,9 @@ toldReport r = record {
   zeros = r .zeros;
   ticks = r .ticks .0;
   risen = r .risen;
+  phases = r .phases;
   host = place.ended (place.number (r .host));
-  chip = phases.toldEnd (r .chip);
+  chip = chips.toldEnd (r .chip);
   nearest = margins.told (r .nearest);
 }
 

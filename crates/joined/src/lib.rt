@@ -16,17 +16,19 @@ use margins::Nearest;
 use phases::ChipEnd;
 use place::Ending;
 use place::HostEnd;
+use ticks::PhaseTicks;
 use units::Seen;
 use units::Ticks;
 
-// What a run came to: the pulses sent, the bits 1 and 0 among them, the tick of the last rise and its exact time, in ps, both endings,
-// and the nearest 1 and 0 that the chip read.
+// What a run came to: the pulses sent, the bits 1 and 0 among them, the tick of the last rise and its exact time, in ps, the ticks of each
+// phase, both endings, and the nearest 1 and 0 that the chip read.
 pub struct Report {
     pub pulses: u32,
     pub ones: u32,
     pub zeros: u32,
     pub ticks: Ticks,
     pub risen: u64,
+    pub phases: PhaseTicks,
     pub host: Ending,
     pub chip: ChipEnd,
     pub nearest: Nearest,
@@ -92,12 +94,14 @@ fn reported(end: Joined) -> Report
     let receiver = chip.receiver;
     let margins = receiver.margins;
     let ticks = end.rise;
+    let phases = host.phases;
     Report {
         pulses: session.pulses,
         ones: session.ones,
         zeros: session.zeros,
         ticks,
         risen: end.risen,
+        phases,
         host: ending(host.end()),
         chip: chip.end(),
         nearest: margins.nearest(),

@@ -6,6 +6,7 @@ use host::Planned;
 use place::HostEnd;
 use place::Phase;
 use place::Place;
+use ticks::PhaseTicks;
 use units::Seen;
 use units::Ticks;
 
@@ -46,10 +47,24 @@ fn print(end: Progress) {
     line(b"zeros ", session.zeros as u64);
     line(b"ticks ", end.rise.0);
     line(b"edges ", end.edges);
+    print_phases(host.phases);
     match host.end() {
         HostEnd::Going => say(b"host going on\n"),
         HostEnd::Ended(ending) => line(b"host ", ending.number() as u64),
     }
+}
+
+fn print_phases(phases: PhaseTicks) {
+    line(b"calibration ", phases.calibration.0);
+    line(b"handshake ", phases.handshake.0);
+    line(b"connection ", phases.connection.0);
+    line(b"version ", phases.version.0);
+    line(b"command ", phases.command.0);
+    line(b"size ", phases.size.0);
+    line(b"image ", phases.image.0);
+    line(b"ram ", phases.ram.0);
+    line(b"programming ", phases.programming.0);
+    line(b"verification ", phases.verification.0);
 }
 
 fn run(start: Progress, image: &[u8]) -> Progress {

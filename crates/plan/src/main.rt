@@ -1,5 +1,6 @@
 // Plans the image on standard input by the bench figures that it is given as arguments, T H P LOOP COMMAND, plays it to a chip whose EEPROM
-// has no fault, and prints what came of it: the lines of `planned`, the exact seconds and the margins, or the number of a refusal.
+// has no fault, and prints what came of it: the lines of `planned`, the exact seconds and the margins; with a sixth argument 1 the ticks of
+// each phase and their sum instead; or the number of a refusal.
 use eeprom::Fault;
 use figures::Figure;
 use joined::Ran;
@@ -8,6 +9,8 @@ use margins::Margin;
 use margins::Nearest;
 use phases::ChipEnd;
 use phases::Ending;
+use ticks::PhaseTicks;
+use units::Ticks;
 
 fn main() {
     let t = argument(1);
@@ -30,7 +33,15 @@ fn main() {
     let Figure::Number(command) = command else {
         return usage();
     };
-    plan(t, h, p, l, command);
+    plan(t, h, p, l, command, asks_phases());
+}
+
+// Whether the sixth argument is 1.
+fn asks_phases() -> bool {
+    match argument(6) {
+        Figure::Not => false,
+        Figure::Number(n) => n == 1,
+    }
 }
 
 // An argument by its number. One that is missing, or too long for a figure, is none.
@@ -43,11 +54,11 @@ fn argument(i: usize) -> Figure {
 fn usage() {
     io::write_all(
         2,
-        b"plan: five numbers are wanted, T H P LOOP COMMAND, and an image on standard input\n",
+        b"plan: five numbers are wanted, T H P LOOP COMMAND, a 1 behind them for the phases, and an image on standard input\n",
     );
 }
 
-fn plan(t: u32, h: u32, p: u32, l: u32, command: u32) {
+fn plan(t: u32, h: u32, p: u32, l: u32, command: u32, phases: bool) {
     // One byte more than the longest image has, so that a longer input is seen to be too long.
     let mut image = [0u8; 32_761];
     let n = io::read_full(0, &mut image);
@@ -65,11 +76,20 @@ fn plan(t: u32, h: u32, p: u32, l: u32, command: u32) {
         &mut eeprom,
     ) {
         Ran::Refused(n) => line(b"refused ", n as u64),
-        Ran::Finished(report) => print(report),
+        Ran::Finished(report) => print(report, phases),
     }
 }
 
-fn print(report: Report) {
+fn print(report: Report, phases: bool) {
+    if phases {
+        let host = report.host;
+        print_phases(report.phases);
+        return warn_of(host.number());
+    }
+    print_plan(report);
+}
+
+fn print_plan(report: Report) {
     line(b"pulses ", report.pulses as u64);
     line(b"ones ", report.ones as u64);
     line(b"zeros ", report.zeros as u64);
@@ -81,6 +101,39 @@ fn print(report: Report) {
     print_seconds(report.risen);
     let nearest = report.nearest;
     print_margins(nearest);
+}
+
+// A line for each phase, and one for what they add up to.
+fn print_phases(phases: PhaseTicks) {
+    let sum = print_phase(b"calibration ", phases.calibration, 0);
+    let sum = print_phase(b"handshake ", phases.handshake, sum);
+    let sum = print_phase(b"connection ", phases.connection, sum);
+    let sum = print_phase(b"version ", phases.version, sum);
+    let sum = print_phase(b"command ", phases.command, sum);
+    let sum = print_phase(b"size ", phases.size, sum);
+    let sum = print_phase(b"image ", phases.image, sum);
+    let sum = print_phase(b"ram ", phases.ram, sum);
+    let sum = print_phase(b"programming ", phases.programming, sum);
+    let sum = print_phase(b"verification ", phases.verification, sum);
+    line(b"ticks ", sum);
+}
+
+// The lines above do not tell how the load ended.
+fn warn_of(ending: u8) {
+    if ending == 0 {
+        return;
+    }
+    io::write_all(2, b"plan: warning: the host ended ");
+    io::print_decimal(2, ending as u64);
+    io::write_all(
+        2,
+        b", so that the load did not succeed; without --phases the plan says more\n",
+    );
+}
+
+fn print_phase(name: &[u8], ticks: Ticks, sum: u64) -> u64 {
+    line(name, ticks.0);
+    std::num::wrapping_add_u64(sum, ticks.0)
 }
 
 fn print_chip(chip: ChipEnd) {

@@ -2,7 +2,7 @@
 -- Assumes nothing.
 use mathlib.Core.List.{List, [], _∷_, map}
 use mathlib.Core.Path.{_≡_, refl, ap, _∙_}
-use Prim.Native.Nat.{ℕ, zero, suc, _+_, _*_, _<_}
+use Prim.Native.Nat.{ℕ, zero, suc, _+_, _*_, _≤_, _<_}
 use native.Mathlib.Nat.{not-suc-le-zero, le-of-suc-le-suc}
 use native.Mathlib.Omega.{arith}
 use lib.ListN.{length, getD, take}
@@ -10,7 +10,7 @@ use Rattle.terms.specs.Choice.{when}
 use Rattle.lent.specs.Bytes.{total}
 use Rattle.settings.specs.declared.Settings.{Settings}
 use Rattle.host.specs.Time.{low, spacer}
-use Rattle.sessions.specs.Legs.{edge}
+use Rattle.sessions.specs.Legs.{legs, edge}
 use Rattle.sessions.specs.Sessions.{ones, zeros}
 use Rattle.sessions.specs.Spelled.{Mark}
 
@@ -48,6 +48,23 @@ module _ (s : Settings) where
   fall-after (m ∷ marks) zero d h = omega arith
   fall-after (m ∷ marks) (suc n) d h =
       omega (arith, fall-after marks n d (le-of-suc-le-suc h), fall-past m marks (suc n), rise-past m marks n)
+
+pub edge-first : (s : Settings) (marks : List Mark) → edge s marks 0 ≡ 0
+unfolding edge total
+edge-first s [] = refl
+edge-first s (m ∷ marks) = refl
+
+-- Times don't go back.
+taken-more : (l : List ℕ) (k : ℕ) → total (take k l) ≤ total (take (suc k) l)
+unfolding total
+taken-more [] zero = omega arith
+taken-more [] (suc k) = omega arith
+taken-more (x ∷ l) zero = omega arith
+taken-more (x ∷ l) (suc k) = omega (arith, taken-more l k)
+
+pub edge-on : (s : Settings) (marks : List Mark) (k : ℕ) → edge s marks k ≤ edge s marks (suc k)
+unfolding edge
+edge-on s marks k = taken-more (legs s marks) k
 
 -- A sum over the first pulses, and one more.
 total-more : (f : Mark → ℕ) (marks : List Mark) (n : ℕ) (d : Mark) → n < length marks

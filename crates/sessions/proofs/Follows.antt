@@ -14,12 +14,13 @@ use Rattle.place.specs.declared.Ending.{Ending}
 use Rattle.place.specs.declared.Phase.{Phase}
 use Rattle.place.specs.declared.Phase.the-variants.{Ended}
 use Rattle.place.specs.declared.Place.{Place}
+use Rattle.ticks.specs.Ticks.{phaseNumber}
 use Rattle.sessions.specs.Spelled.{Mark, Part, over, sends}
 
 module _ (load : Load) (lent : ℕ → List ℕ) (seen : ℕ → Seen) where
   -- The pulse that call n sends at a place.
   abbrev pub markAt : ℕ → Phase → ℕ → Mark
-  markAt n phase i = record { bit = sentBit load (lent n) phase i; silent = endsSilentPair phase i (seen n) }
+  markAt n phase i = record { bit = sentBit load (lent n) phase i; silent = endsSilentPair phase i (seen n); phase = phaseNumber phase }
 
   -- From call n on, at a place, these pulses are sent, and then the session has ended so.
   pub data Follows : ℕ → Place → List Mark → Ending → Type 0 where
@@ -55,10 +56,10 @@ module _ {load : Load} {lent : ℕ → List ℕ} {seen : ℕ → Seen} where
   pub pulse-sent : (n : ℕ) (phase : Phase) (i : ℕ) (bit silent : Bool) (rest : Part) → ended phase ≡ false
       → sentBit load (lent n) phase i ≡ bit → endsSilentPair phase i (seen n) ≡ silent
       → From load lent seen (n + 1) (next load phase i (seen n)) rest
-      → From load lent seen n (record { phase = phase; index = i }) (sends bit silent rest)
+      → From load lent seen n (record { phase = phase; index = i }) (sends phase bit silent rest)
   pulse-sent n phase i bit silent rest on b s f =
-      let same : markAt load lent seen n phase i ≡ record { bit = bit; silent = silent } =
-      ap₂ (λ (x y : Bool). record { bit = x; silent = y }) b s in
+      let same : markAt load lent seen n phase i ≡ record { bit = bit; silent = silent; phase = phaseNumber phase } =
+      ap₂ (λ (x y : Bool). record { bit = x; silent = y; phase = phaseNumber phase }) b s in
       record { follows = goes-on n (record { phase = phase; index = i }) _ _ _ on same (f .follows) }
 
   -- A choice by the same test on both sides.

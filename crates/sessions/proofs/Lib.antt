@@ -1,7 +1,9 @@
 pub mod Edges
 pub mod Follows
+pub mod Moves
 pub mod Onward
 pub mod Parts
 pub mod Played
+pub mod Runs
 pub mod Spells
 pub mod Whole

@@ -48,21 +48,21 @@ module _ (load : Load) (lent : ℕ → List ℕ) (seen : ℕ → Seen) where
       (is : (n i : ℕ) → sentBit load (lent n) phase i ≡ bit n (number i))
       (rest : Part) (ahead : (n : ℕ) → Sent n (opened (after load phase)) rest) where
     pub bits-sent : (left i k n : ℕ) → i + left ≡ places load phase → k ≡ number i
-        → Sent n (within load phase i left) (bits bit k left rest)
+        → Sent n (within load phase i left) (bits phase bit k left rest)
     unfolding bits
     bits-sent zero i k n e c = record { follows = ahead n .follows }
     bits-sent (suc left) i k n e c =
         let more = bits-sent left (i + 1) (k + 1) (n + 1) (omega (arith, e)) (ap (λ (x : ℕ). x + 1) c ∙ sym (counts i)) in
-        let here : Sent n (record { phase = phase; index = i }) (sends (bit n k) false (bits bit (k + 1) left rest)) =
+        let here : Sent n (record { phase = phase; index = i }) (sends phase (bit n k) false (bits phase bit (k + 1) left rest)) =
         pulse-sent n phase i (bit n k) false _ (plain .on) (is n i ∙ ap (bit n) (sym c)) (plain .quiet i (seen n))
         (stands-at (next-plain load phase plain left i (seen n) e) more) in
         record { follows = here .follows }
 
   pub pair-sent : (phase : Phase) → Paired load phase → (n j : ℕ) (silent : Bool) (rest : Part) → j * 2 + 1 < places load phase
       → endsSilentPair phase (j * 2 + 1) (seen (n + 1)) ≡ silent → Sent (n + 1 + 1) (afterPair load phase (j * 2 + 1) (seen (n + 1))) rest
-      → Sent n (record { phase = phase; index = j * 2 }) (sends true false (sends false silent rest))
+      → Sent n (record { phase = phase; index = j * 2 }) (sends phase true false (sends phase false silent rest))
   pair-sent phase paired n j silent rest h q f =
-      let second : Sent (n + 1) (record { phase = phase; index = j * 2 + 1 }) (sends false silent rest) =
+      let second : Sent (n + 1) (record { phase = phase; index = j * 2 + 1 }) (sends phase false silent rest) =
       pulse-sent (n + 1) phase (j * 2 + 1) false silent rest (paired .on) (paired .bits (lent (n + 1)) (j * 2 + 1) ∙ second-bit j) q
       (stands-at (next-second load phase j (seen (n + 1))) f) in
       pulse-sent n phase (j * 2) true false _ (paired .on) (paired .bits (lent n) (j * 2) ∙ first-bit j)
@@ -126,20 +126,20 @@ module _ (load : Load) (lent : ℕ → List ℕ) (seen : ℕ → Seen) where
 
     module _ (left j n : ℕ) (e : j + suc left ≡ pairs a) where
       seen-pair : (s : Seen) (rest : Part) → seen (n + 1) ≡ s → Sent (n + 1 + 1) (afterWaitPair load a (j * 2 + 1) s) rest
-          → Sent n (record { phase = Wait a; index = j * 2 }) (sends true false (sends false (isSilence s) rest))
+          → Sent n (record { phase = Wait a; index = j * 2 }) (sends (Wait a) true false (sends (Wait a) false (isSilence s) rest))
       seen-pair s rest is f =
           pair-sent (Wait a) wait-paired n j (isSilence s) rest (omega (arith, e)) (second-silent n j s is)
           (stands-at (ap (afterWaitPair load a (j * 2 + 1)) is) f)
 
       wait-pair : (on : Part) → Sent (n + 1 + 1) (within load (Wait a) ((j + 1) * 2) left) on → (s : Seen) → seen (n + 1) ≡ s
-          → Sent n (record { phase = Wait a; index = j * 2 }) (by s (silentPair on) (pair good) (pair (over (bad a))))
+          → Sent n (record { phase = Wait a; index = j * 2 }) (by s (silentPair (Wait a) on) (pair (Wait a) good) (pair (Wait a) (over (bad a))))
       wait-pair on more Silence is = seen-pair Silence on is (stands-at (onward-pair load (Wait a) left j (omega (arith, e))) more)
       wait-pair on more Zero is = seen-pair Zero good is (ahead (n + 1 + 1))
       wait-pair on more One is = seen-pair One (over (bad a)) is (over-sent (n + 1 + 1) (bad a))
 
-    pub wait-sent : (left j n : ℕ) → j + left ≡ pairs a → Sent n (within load (Wait a) (j * 2) left) (wait seen left (bad a) good)
+    pub wait-sent : (left j n : ℕ) → j + left ≡ pairs a → Sent n (within load (Wait a) (j * 2) left) (wait seen a left (bad a) good)
     unfolding wait
     wait-sent zero j n e = record { follows = over-sent n Lost .follows }
     wait-sent (suc left) j n e =
         let more = wait-sent left (j + 1) (n + 1 + 1) (omega (arith, e)) in
-        record { follows = wait-pair left j n e (wait seen left (bad a) good) more (seen (n + 1)) refl .follows }
+        record { follows = wait-pair left j n e (wait seen a left (bad a) good) more (seen (n + 1)) refl .follows }

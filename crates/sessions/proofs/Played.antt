@@ -1,11 +1,12 @@
 -- A host that stands where the session begins sends it whole: each call keeps the host at the list's next pulse, at the time at which
 -- that pulse falls, with the counts of the pulses before it.
 -- Assumes nothing.
-use mathlib.Core.Bool.{Bool, false}
+use mathlib.Core.Bool.{Bool, false, true≢false}
 use mathlib.Core.List.{List, _∷_}
-use mathlib.Core.Path.{_≡_, refl, sym, ap, _∙_, subst}
-use Prim.Native.Nat.{ℕ, zero, suc, _+_, _*_, _≤_, _<_}
-use native.Mathlib.Nat.{div-mul-le-self, lt-div-mul-add}
+use mathlib.Core.Logic.{_⊎_, inl, inr}
+use mathlib.Core.Path.{_≡_, refl, sym, ap, ap₂, _∙_, subst}
+use Prim.Native.Nat.{ℕ, zero, suc, _+_, _-_, _*_, _/_, _≤_, _<_}
+use native.Mathlib.Nat.{div-mul-le-self, lt-div-mul-add, zero-div}
 use native.Mathlib.Numerals.{add-one}
 use native.Mathlib.Omega.{arith}
 use lib.ListN.{length, take, drop}
@@ -23,20 +24,27 @@ use Rattle.bits.specs.Bits.{sentBit}
 use Rattle.follow.specs.Follow.{opened, next}
 use Rattle.place.specs.Phases.{imagePulses, ended}
 use Rattle.range.specs.Ranges.{before}
-use Rattle.place.specs.declared.Phase.the-variants.{Ended}
+use Rattle.place.specs.declared.Phase.the-variants.{Calibration, Ended}
 use Rattle.place.specs.declared.Place.{Place}
 use Rattle.session.specs.Step.{stepRows, pulseOf, sessionStep}
 use Rattle.session.specs.declared.Pulse.{Pulse}
 use Rattle.session.proofs.Within.{session-within, pulses-most}
-use Rattle.host.specs.Step.{timed, hostStep}
+use Rattle.host.specs.Step.{fallOf, riseOf, timed, hostStep}
 use Rattle.host.specs.Time.{low, spacer, tick}
 use Rattle.host.specs.declared.Host.{Host}
 use Rattle.host.specs.declared.Sent.{Sent}
 use Rattle.host.proofs.Kept.{Kept, step-keeps}
-use Rattle.host.proofs.Steps.{fits, step-sent, step-refused}
-use Rattle.sessions.specs.Sessions.{ones, zeros, session, many, pulse, edge, Sends}
+use Rattle.host.proofs.Legs.{tick-on}
+use Rattle.host.proofs.Steps.{fits, step-sent, step-refused, phases-sum, phases-each}
+use Rattle.ticks.specs.Ticks.{none, phaseNumber, ticksOf, sum, holder}
+use Rattle.ticks.specs.declared.PhaseTicks.{PhaseTicks}
+use Rattle.ticks.proofs.Sums.{none-ticks}
+use Rattle.sessions.specs.Phases.{callsBefore, lastRise, stamp}
+use Rattle.sessions.specs.Sessions.{ones, zeros, unsent, session, many, pulse, edge, falls, rises, phaseAt, Sends}
 use Rattle.sessions.specs.Spelled.{Mark, Spelled}
-use Rattle.sessions.proofs.Edges.{rise-after, fall-after, ones-more, zeros-more}
+use Rattle.sessions.proofs.Edges.{edge-first, edge-on, rise-after, fall-after, ones-more, zeros-more}
+use Rattle.sessions.proofs.Moves.{Moves, stops, opens, stays, next-moves}
+use Rattle.sessions.proofs.Runs.{Onwards, Adds, share, spans-all, none-before, same-before}
 use Rattle.sessions.proofs.Follows.{Follows, GoesOn, pulse-left, none-left}
 
 module _ (s : Settings) (load : Load) (size : ℕ) (lent : ℕ → List ℕ) (seen : ℕ → Seen)
@@ -53,6 +61,15 @@ module _ (s : Settings) (load : Load) (size : ℕ) (lent : ℕ → List ℕ) (se
   abbrev time : ℕ → ℕ
   time = edge s (load .command) size lent seen
 
+  abbrev falling : ℕ → ℕ
+  falling = falls s (load .command) size lent seen
+
+  abbrev rising : ℕ → ℕ
+  rising = rises s (load .command) size lent seen
+
+  abbrev phasing : ℕ → ℕ
+  phasing = phaseAt s (load .command) size lent seen
+
   -- The host before call n.
   pub record At (n : ℕ) (x : Host) : Type 0 where
     pub kept : Kept x
@@ -63,6 +80,7 @@ module _ (s : Settings) (load : Load) (size : ℕ) (lent : ℕ → List ℕ) (se
     pub counted : x .session .pulses ≡ n
     pub counted-ones : x .session .ones ≡ ones (take n (whole .pulses))
     pub counted-zeros : x .session .zeros ≡ zeros (take n (whole .pulses))
+    pub summed : sum (x .phases) ≡ lastRise rising n
 
   -- One call.
   module _ (n : ℕ) (x : Host) (at : At n x) (h : n < count) where
@@ -93,24 +111,48 @@ module _ (s : Settings) (load : Load) (size : ℕ) (lent : ℕ → List ℕ) (se
     same-silent : sending .silent ≡ mark n .silent
     same-silent = ap (λ (m : Mark). m .silent) (goes .is)
 
-    rises : x .time + low (x .settings) (sending .bit) ≡ time (2 * n + 1)
-    rises =
+    risen : x .time + low (x .settings) (sending .bit) ≡ time (2 * n + 1)
+    risen =
         let lasts : low (x .settings) (sending .bit) ≡ low s (mark n .bit) =
         ap (λ (y : Settings). low y (sending .bit)) (at .set) ∙ ap (low s) same-bit in
-        omega (arith, at .falls, lasts, rise-after s (whole .pulses) n (record { bit = false; silent = false }) h)
+        omega (arith, at .falls, lasts, rise-after s (whole .pulses) n unsent h)
 
     falls-next : x .time + low (x .settings) (sending .bit) + spacer (x .settings) (sending .silent) ≡ time (2 * suc n)
     falls-next =
         let lasts : spacer (x .settings) (sending .silent) ≡ spacer s (mark n .silent) =
         ap (λ (y : Settings). spacer y (sending .silent)) (at .set) ∙ ap (spacer s) same-silent in
-        omega (arith, rises, lasts, fall-after s (whole .pulses) n (record { bit = false; silent = false }) h)
+        omega (arith, risen, lasts, fall-after s (whole .pulses) n unsent h)
+
+    place-next : sending .session .place ≡ next load (place .phase) (place .index) (seen n)
+    place-next = ap (λ (l : Load). next l (place .phase) (place .index) (seen n)) (at .loaded)
 
     left-next : Follows load lent seen (suc n) (sending .session .place) (drop (suc n) (whole .pulses)) (whole .ending)
     left-next =
-        let there : sending .session .place ≡ next load (place .phase) (place .index) (seen n) =
-        ap (λ (l : Load). next l (place .phase) (place .index) (seen n)) (at .loaded) in
         subst (λ (m : ℕ). Follows load lent seen m (sending .session .place) (drop (suc n) (whole .pulses)) (whole .ending)) (add-one n)
-        (subst (λ (q : Place). Follows load lent seen (n + 1) q (drop (suc n) (whole .pulses)) (whole .ending)) (sym there) (goes .rest))
+        (subst (λ (q : Place). Follows load lent seen (n + 1) q (drop (suc n) (whole .pulses)) (whole .ending)) (sym place-next) (goes .rest))
+
+    same-phase : phaseNumber (place .phase) ≡ phasing n
+    same-phase = ap (λ (m : Mark). m .phase) (goes .is)
+
+    -- The ticks of the pulse are those of its edges.
+    fall-tick : fallOf x ≡ falling n
+    fall-tick = ap (λ (y : Settings). x .time / y .p) (at .set) ∙ ap (λ (y : ℕ). y / s .p) (at .falls)
+
+    rise-tick : riseOf x (sending .bit) ≡ rising n
+    rise-tick = ap (λ (y : Settings). (x .time + low (x .settings) (sending .bit)) / y .p) (at .set) ∙ ap (λ (y : ℕ). y / s .p) risen
+
+    summed-next : sum (timed x sending .host .phases) ≡ rising n
+    summed-next = phases-sum x (at .kept .own) (lent n) (seen n) sending session-sends ∙ rise-tick
+
+    shared : (q : ℕ) → ticksOf (timed x sending .host .phases) q
+        ≡ ticksOf (x .phases) q
+        + share q (holder (phaseNumber (place .phase)) (place .index)) (falling n - lastRise rising n)
+        + share q (phaseNumber (place .phase)) (rising n - falling n)
+    shared q =
+        phases-each x (at .kept .own) (lent n) (seen n) sending session-sends q
+        ∙ ap₂ (λ (gap low : ℕ).
+        ticksOf (x .phases) q + share q (holder (phaseNumber (place .phase)) (place .index)) gap + share q (phaseNumber (place .phase)) low)
+        (ap₂ (λ (a b : ℕ). a - b) fall-tick (at .summed)) (ap₂ (λ (a b : ℕ). a - b) rise-tick fall-tick)
 
     at-next : At (suc n) (timed x sending .host)
     at-next = record {
@@ -128,6 +170,7 @@ module _ (s : Settings) (load : Load) (size : ℕ) (lent : ℕ → List ℕ) (se
           ap (λ (k : ℕ). k + when (sending .bit) 0 1) (at .counted-zeros)
           ∙ ap (λ (b : Bool). zeros (take n (whole .pulses)) + when b 0 1) same-bit
           ∙ sym (zeros-more (whole .pulses) n _ h);
+      summed = summed-next;
     }
 
   -- All calls: the hosts one after the other. One that refuses stays as it is.
@@ -175,7 +218,7 @@ module _ (s : Settings) (load : Load) (size : ℕ) (lent : ℕ → List ℕ) (se
           let sent = timed (hosts n) now-sending in
           let by : Host → Ticks → Ticks → ℕ → Answer Sent = λ host fall rise risen.
           taken (record { host = host; fall = fall; rise = rise; risen = risen }) in
-          let rise = rises n (hosts n) here h in
+          let rise = risen n (hosts n) here h in
           host-sends n (hosts n) here h
           ∙ ap (λ (y : Host). by y (sent .fall) (sent .rise) (sent .risen)) next-host
           ∙ ap (λ (y : Ticks). by (hosts (n + 1)) y (sent .rise) (sent .risen)) (ticks _ _ (here .falls))
@@ -219,8 +262,90 @@ module _ (s : Settings) (load : Load) (size : ℕ) (lent : ℕ → List ℕ) (se
     some-tick : 0 < s .p
     some-tick = subst (λ (y : Settings). 0 < y .p) (start .set) (omega (arith, fits x (start .kept .own) .p-within .0))
 
-    pub plays : load .length .0 ≤ size → Sends s (load .command) size lent seen x
-    plays short = record {
+    -- The ten phases.
+    abbrev standing : ℕ → ℕ
+    standing n = phaseNumber (hosts n .session .place .phase)
+
+    abbrev index : ℕ → ℕ
+    index n = hosts n .session .place .index
+
+    abbrev lasting : ℕ → ℕ → ℕ
+    lasting n q = ticksOf (hosts n .phases) q
+
+    stands-in : (n : ℕ) → n < count → standing n ≡ phasing n
+    stands-in n h = same-phase n (hosts n) (here n h) h
+
+    onwards-by : (n : ℕ) → ended (hosts (suc n) .session .place .phase) ≡ false → Moves (standing n) (hosts (suc n) .session .place)
+        → Onwards standing index n
+    onwards-by n on (stops e) = absurd (true≢false (sym e ∙ on))
+    onwards-by n on (opens i e) = inl (record { at-0 = i; next = e })
+    onwards-by n on (stays i e) = inr (record { past-0 = i; same = e })
+
+    moves : (n : ℕ) → suc n < count → Onwards standing index n
+    moves n h =
+        let before : n < count = omega (arith, h) in
+        let at = here n before in
+        let goes-on : ended (hosts (suc n) .session .place .phase) ≡ false = goes (suc n) (hosts (suc n)) (here (suc n) h) h .on in
+        let there : hosts (suc n) .session .place ≡ next load (hosts n .session .place .phase) (index n) (seen n) =
+        ap (λ (y : Host). y .session .place) (hosts-suc n at before) ∙ place-next n (hosts n) at before in
+        onwards-by n goes-on
+        (subst (Moves (standing n)) (sym there)
+        (next-moves load (hosts n .session .place .phase) (index n) (seen n) (goes n (hosts n) at before .on)))
+
+    adding : (n : ℕ) → n < count → Adds standing index falling rising lasting n
+    adding n h = record {
+      adds = λ q. ap (λ (y : Host). ticksOf (y .phases) q) (hosts-suc n (here n h) h) ∙ shared n (hosts n) (here n h) h q;
+    }
+
+    first-fall : falling 0 ≡ 0
+    first-fall = ap (λ (y : ℕ). y / s .p) (edge-first s (whole .pulses)) ∙ zero-div (s .p)
+
+    falls-rises : (n : ℕ) → falling n ≤ rising n
+    falls-rises n =
+        tick-on (time (2 * n)) (time (2 * n + 1)) (s .p) some-tick
+        (omega (arith, edge-on s (whole .pulses) (2 * n), ap time (add-one (2 * n))))
+
+    rises-falls : (n : ℕ) → rising n ≤ falling (suc n)
+    rises-falls n =
+        let two : 2 * suc n ≡ suc (2 * n + 1) = omega arith in
+        tick-on (time (2 * n + 1)) (time (2 * suc n)) (s .p) some-tick (omega (arith, edge-on s (whole .pulses) (2 * n + 1), ap time two))
+
+    module _ (begins : x .session .place ≡ opened Calibration) (empty : x .phases ≡ none) where
+      runs : (n q : ℕ) → n ≤ count
+          → stamp falling rising n (callsBefore standing n q) + lasting n q ≡ stamp falling rising n (callsBefore standing n (suc q))
+      runs n q h =
+          spans-all standing index falling rising lasting
+          (ap (λ (p : Place). phaseNumber (p .phase)) begins) (ap (λ (p : Place). p .index) begins) first-fall
+          (λ k. ap (λ (p : PhaseTicks). ticksOf p k) empty ∙ none-ticks k) falls-rises rises-falls
+          n (λ k b. moves k (omega (arith, b, h))) (λ k b. adding k (omega (arith, b, h))) q
+
+      runs-spelled : (n q : ℕ) → n ≤ count
+          → stamp falling rising n (callsBefore phasing n q) + lasting n q ≡ stamp falling rising n (callsBefore phasing n (q + 1))
+      runs-spelled n q h =
+          let same : (k : ℕ) → callsBefore standing n k ≡ callsBefore phasing n k =
+          λ k. same-before standing phasing k n (λ l b. stands-in l (omega (arith, b, h))) in
+          let from = ap (stamp falling rising n) (same q) in
+          let to = ap (stamp falling rising n) (same (suc q) ∙ ap (callsBefore phasing n) (sym (add-one q))) in
+          omega (arith, runs n q h, from, to)
+
+      runs-none : (n q : ℕ) → n ≤ count → ((k : ℕ) → k < n → phasing k ≡ q → ⊥) → lasting n q ≡ 0
+      runs-none n q h none =
+          let same =
+          ap (stamp falling rising n) (none-before standing n q (λ k b e. none k b (sym (stands-in k (omega (arith, b, h))) ∙ e))) in
+          omega (arith, runs n q h, same)
+
+    onwards-spelled : (n : ℕ) → n + 1 < count → (phasing (n + 1) ≡ phasing n + 1) ⊎ (phasing (n + 1) ≡ phasing n)
+    onwards-spelled n h =
+        let this = stands-in n (omega (arith, h)) in
+        let next : standing (suc n) ≡ phasing (n + 1) = stands-in (suc n) (omega (arith, h)) ∙ ap phasing (sym (add-one n)) in
+        elim (moves n (omega (arith, h))) [
+          | inl o ↦ inl (omega (arith, o .next, this, next))
+          | inr s ↦ inr (omega (arith, s .same, this, next))
+        ]
+
+    pub plays : load .length .0 ≤ size → x .session .place ≡ opened Calibration → x .phases ≡ none
+        → Sends s (load .command) size lent seen x
+    plays short begins empty = record {
       hosts = hosts;
       first = refl;
       steps = step-is;
@@ -231,6 +356,11 @@ module _ (s : Settings) (load : Load) (size : ℕ) (lent : ℕ → List ℕ) (se
       counted = λ n h. hosts-at n h .counted;
       counted-ones = λ n h. hosts-at n h .counted-ones;
       counted-zeros = λ n h. hosts-at n h .counted-zeros;
+      stands = stands-in;
+      onwards = onwards-spelled;
+      phases-sum = λ n h. hosts-at n h .summed;
+      phases-each = runs-spelled begins empty;
+      phases-none = runs-none begins empty;
       not-late = λ k. div-mul-le-self (time k) (s .p);
       early = λ k. lt-div-mul-add some-tick;
       bound = omega (arith, few, short);

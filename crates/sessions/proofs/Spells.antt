@@ -33,25 +33,25 @@ pub record Loads (load : Load) (size : ℕ) : Type 0 where
 module _ (load : Load) (size : ℕ) (lent : ℕ → List ℕ) (seen : ℕ → Seen) (loads : (load .command ≡ 0 → ⊥) → Loads load size) where
   -- What is spelled from each phase on.
   abbrev verifying : Part
-  verifying = wait seen 200 BadVerification then over Done
+  verifying = wait seen Verification 200 BadVerification then over Done
 
   abbrev programming : Part
-  programming = wait seen 500 BadProgramming then verifying
+  programming = wait seen Programming 500 BadProgramming then verifying
 
   abbrev storing : Part
-  storing = wait seen 25 BadRam then doneFor (load .command) size lent seen 1 then programming
+  storing = wait seen Ram 25 BadRam then doneFor (load .command) size lent seen 1 then programming
 
   abbrev imaging : Part
-  imaging = bits (λ n i. imageBit (lent n) i) 0 (size * 8) then storing
+  imaging = bits Image (λ n i. imageBit (lent n) i) 0 (size * 8) then storing
 
   abbrev sizing : Part
-  sizing = value (size / 4) then imaging
+  sizing = value Size (size / 4) then imaging
 
   abbrev commanding : Part
-  commanding = value (load .command) then doneFor (load .command) size lent seen 0 then sizing
+  commanding = value Command (load .command) then doneFor (load .command) size lent seen 0 then sizing
 
   abbrev zeroing : Part
-  zeroing = bits (λ n i. false) 0 32 then over WrongVersion
+  zeroing = bits Command (λ n i. false) 0 32 then over WrongVersion
 
   abbrev versioning : Part
   versioning = version seen 0 8 0 zeroing then commanding
@@ -60,7 +60,7 @@ module _ (load : Load) (size : ℕ) (lent : ℕ → List ℕ) (seen : ℕ → Se
   connecting = connection seen 251 250 then versioning
 
   abbrev shaking : Part
-  shaking = bits (λ n k. draw k) 1 250 then connecting
+  shaking = bits Handshake (λ n k. draw k) 1 250 then connecting
 
   -- It is sent.
   abbrev Sent : Phase → Part → Type 0
@@ -115,6 +115,7 @@ module _ (load : Load) (size : ℕ) (lent : ℕ → List ℕ) (seen : ℕ → Se
       32 0 0 n refl refl
 
   zeroed : Sent Zeros zeroing
+  unfolding bits
   zeroed n =
       bits-sent load lent seen Zeros (record { on = refl; onwards = λ i s. refl; quiet = λ i s. refl })
       (λ m i. false) (λ i. i) (λ i. refl) (λ m i. refl) (over WrongVersion) (λ m. over-sent m WrongVersion) 32 0 0 n refl refl
@@ -130,7 +131,7 @@ module _ (load : Load) (size : ℕ) (lent : ℕ → List ℕ) (seen : ℕ → Se
       bits-sent load lent seen Handshake (record { on = refl; onwards = λ i s. refl; quiet = λ i s. refl })
       (λ m k. draw k) (λ i. i + 1) (λ i. refl) (λ m i. refl) connecting connected 250 0 1 n refl refl
 
-  calibrated : Sent Calibration (pair then shaking)
+  calibrated : Sent Calibration (pair Calibration then shaking)
   calibrated n =
       pair-sent load lent seen Calibration (record { on = refl; bits = λ image i. refl; quiet = λ i s e. refl })
       n 0 false shaking (omega arith) refl

@@ -18,6 +18,7 @@ use Rattle.load.specs.Load.{otherImage}
 use Rattle.session.specs.Step as session
 use Rattle.host.specs.Step.{fresh}
 use Rattle.host.specs.declared.Host.{Host}
+use Rattle.ticks.specs.Ticks.{sum}
 use Rattle.host.proofs.Kept.{Kept, start-keeps}
 use Rattle.host.proofs.Starts.{start-gives}
 use Rattle.session.proofs.Starts.{length-kept, lent-again}
@@ -50,7 +51,7 @@ module _ (t h p command : ℕ) (image : List ℕ) (lent : ℕ → List ℕ) (see
     same-image n = lent-again command image (lent n) (λ some. same some n)
 
     at-start : At given load (length image) lent seen same-image 0 begun
-    unfolding edge total ones zeros
+    unfolding edge total ones zeros sum
     at-start = record {
       kept = kept;
       set = refl;
@@ -60,10 +61,11 @@ module _ (t h p command : ℕ) (image : List ℕ) (lent : ℕ → List ℕ) (see
       counted = refl;
       counted-ones = refl;
       counted-zeros = refl;
+      summed = refl;
     }
 
     begun-sends : Sends given command (length image) lent seen begun
-    begun-sends = plays given load (length image) lent seen same-image begun at-start no-longer
+    begun-sends = plays given load (length image) lent seen same-image begun at-start no-longer refl refl
 
 pub every-session : EverySession
 every-session t h p command image x lent seen e same =

@@ -1,3 +1,4 @@
 pub mod Legs
+pub mod Phases
 pub mod Sessions
 pub mod Spelled

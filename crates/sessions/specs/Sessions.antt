@@ -1,7 +1,9 @@
--- 01, "What the host sends" and "Edges", over whole sessions: a host that was started sends the session that is spelled, call for call.
+-- 01, "What the host sends" and "Edges", and 02, "Six", over whole sessions: a host that was started sends the session that is spelled, call
+-- for call.
 -- Assumes nothing.
 use mathlib.Core.Bool.{false}
 use mathlib.Core.List.{List, map}
+use mathlib.Core.Logic.{_⊎_}
 use mathlib.Core.Path.{_≡_}
 use Prim.Native.Nat.{ℕ, _+_, _*_, _≤_, _<_}
 use lib.ListN.{length, getD, take}
@@ -16,7 +18,9 @@ use Rattle.session.specs.Step.{sessionStep}
 use Rattle.host.specs.Step.{hostStart, hostStep}
 use Rattle.host.specs.Time.{tick}
 use Rattle.host.specs.declared.Host.{Host}
+use Rattle.ticks.specs.Ticks.{phaseNumber, ticksOf, sum}
 use Rattle.sessions.specs.Legs as legs
+use Rattle.sessions.specs.Phases.{callsBefore, lastRise, stamp}
 use Rattle.sessions.specs.Spelled.{Mark, Spelled, spelled}
 
 -- The ones among some pulses, and the zeros.
@@ -25,6 +29,10 @@ ones marks = total (map (λ (m : Mark). when (m .bit) 1 0) marks)
 
 unfoldable pub zeros : List Mark → ℕ
 zeros marks = total (map (λ (m : Mark). when (m .bit) 0 1) marks)
+
+-- What stands past the last pulse.
+abbrev pub unsent : Mark
+unsent = record { bit = false; silent = false; phase = 10 }
 
 -- Call n is lent the image `lent n`, and told that `seen n` was seen.
 module _ (settings : Settings) (command size : ℕ) (lent : ℕ → List ℕ) (seen : ℕ → Seen) where
@@ -36,11 +44,25 @@ module _ (settings : Settings) (command size : ℕ) (lent : ℕ → List ℕ) (s
   many = length (session .pulses)
 
   abbrev pub pulse : ℕ → Mark
-  pulse n = getD (session .pulses) n (record { bit = false; silent = false })
+  pulse n = getD (session .pulses) n unsent
 
   -- The exact time of edge k: pulse n falls at edge 2n and rises at edge 2n + 1.
   abbrev pub edge : ℕ → ℕ
   edge = legs.edge settings (session .pulses)
+
+  -- The ticks of these two edges, and the phase of pulse n, by its number among the ten.
+  abbrev pub falls : ℕ → ℕ
+  falls n = tick settings (edge (2 * n)) .0
+
+  abbrev pub rises : ℕ → ℕ
+  rises n = tick settings (edge (2 * n + 1)) .0
+
+  abbrev pub phaseAt : ℕ → ℕ
+  phaseAt n = pulse n .phase
+
+  -- The tick at which phase q begins, as it is known before call n: its first fall, or the last rise where it is still to come.
+  abbrev pub begins : ℕ → ℕ → ℕ
+  begins n q = stamp falls rises n (callsBefore phaseAt n q)
 
   -- The host x sends the session.
   pub record Sends (x : Host) : Type 0 where
@@ -67,6 +89,14 @@ module _ (settings : Settings) (command size : ℕ) (lent : ℕ → List ℕ) (s
     pub counted : (n : ℕ) → n ≤ many → hosts n .session .pulses ≡ n
     pub counted-ones : (n : ℕ) → n ≤ many → hosts n .session .ones ≡ ones (take n (session .pulses))
     pub counted-zeros : (n : ℕ) → n ≤ many → hosts n .session .zeros ≡ zeros (take n (session .pulses))
+    -- Call n stands in the phase of pulse n, and the next call in the same or in the next phase.
+    pub stands : (n : ℕ) → n < many → phaseNumber (hosts n .session .place .phase) ≡ phaseAt n
+    pub onwards : (n : ℕ) → n + 1 < many → (phaseAt (n + 1) ≡ phaseAt n + 1) ⊎ (phaseAt (n + 1) ≡ phaseAt n)
+    -- Before each call, and after the last, the ten add up to the tick of the last rise. Each runs from its first fall to the next phase's
+    -- first fall, or to the last rise where that is still to come. One in which no call stood has 0.
+    pub phases-sum : (n : ℕ) → n ≤ many → sum (hosts n .phases) ≡ lastRise rises n
+    pub phases-each : (n q : ℕ) → n ≤ many → begins n q + ticksOf (hosts n .phases) q ≡ begins n (q + 1)
+    pub phases-none : (n q : ℕ) → n ≤ many → ((k : ℕ) → k < n → phaseAt k ≡ q → ⊥) → ticksOf (hosts n .phases) q ≡ 0
     -- No edge is late, and each is early by less than one tick.
     pub not-late : (k : ℕ) → tick settings (edge k) .0 * settings .p ≤ edge k
     pub early : (k : ℕ) → edge k < tick settings (edge k) .0 * settings .p + settings .p

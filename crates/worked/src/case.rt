@@ -55,6 +55,8 @@ pub(crate) const SIZE: u32 = 22;
 
 pub(crate) const D: u32 = 23;
 
+pub(crate) const PHASES: u32 = 24;
+
 // A case with a threshold is a low that is read, and one with a size is fed to a chip. One with a pulse, or with a byte that is sent as
 // another, is stepped.
 pub(crate) fn run(line: &[u8]) {
@@ -108,7 +110,8 @@ fn said(line: &[u8], name: u32, otherwise: u64) -> u64 {
         stopped after \n\
         threshold \n\
         size \n\
-        d \n";
+        d \n\
+        phases \n";
     cases::number(line, cases::line(names, name), otherwise)
 }
 

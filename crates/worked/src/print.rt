@@ -6,8 +6,10 @@ use margins::Nearest;
 use phases::ChipEnd;
 use phases::Ending;
 use place::HostEnd;
+use ticks::PhaseTicks;
 use units::Distance;
 use units::Seen;
+use units::Ticks;
 
 // What is printed, each by its place on the list of words.
 const REFUSED: u32 = 0;
@@ -18,7 +20,7 @@ const ONES: u32 = 2;
 
 const ZEROS: u32 = 3;
 
-const TICKS: u32 = 4;
+pub(crate) const TICKS: u32 = 4;
 
 const HOST: u32 = 5;
 
@@ -50,6 +52,10 @@ const REPLY: u32 = 18;
 
 const BY_PLACE: u32 = 19;
 
+const PHASES: u32 = 20;
+
+const SUM: u32 = 21;
+
 pub(crate) fn heading(line: &[u8]) {
     io::write_all(1, line);
     io::write_all(1, b"\n");
@@ -75,7 +81,9 @@ pub(crate) fn word(n: u32) {
         : bit \n\
         \x20distance \n\
         \x20reply \n\
-        \x20by place \n";
+        \x20by place \n\
+        \x20phases\n\
+        \x20sum \n";
     io::write_all(1, cases::line(words, n));
 }
 
@@ -84,7 +92,8 @@ pub(crate) fn number(word: u32, n: u64) {
     io::print_decimal(1, n);
 }
 
-pub(crate) fn ran(ran: Ran) {
+// A run's line, with the ticks of each phase where these are asked for.
+pub(crate) fn ran(ran: Ran, phases: bool) {
     match ran {
         Ran::Refused(n) => number(REFUSED, n as u64),
         Ran::Finished(report) => {
@@ -98,8 +107,33 @@ pub(crate) fn ran(ran: Ran) {
             let nearest = report.nearest;
             chip(end);
             margins(nearest);
+            if phases {
+                self::phases(report.phases);
+            }
         }
     }
+}
+
+// The ticks of each phase, and what they add up to.
+pub(crate) fn phases(phases: PhaseTicks) {
+    word(PHASES);
+    let sum = phase(phases.calibration, 0);
+    let sum = phase(phases.handshake, sum);
+    let sum = phase(phases.connection, sum);
+    let sum = phase(phases.version, sum);
+    let sum = phase(phases.command, sum);
+    let sum = phase(phases.size, sum);
+    let sum = phase(phases.image, sum);
+    let sum = phase(phases.ram, sum);
+    let sum = phase(phases.programming, sum);
+    let sum = phase(phases.verification, sum);
+    number(SUM, sum);
+}
+
+fn phase(ticks: Ticks, sum: u64) -> u64 {
+    io::write_all(1, b" ");
+    io::print_decimal(1, ticks.0);
+    std::num::wrapping_add_u64(sum, ticks.0)
 }
 
 // How a session has ended, where it has.

@@ -1,19 +1,23 @@
-// A case in which session and chip are stepped side by side, a pulse at a time.
+// A case in which host and chip are stepped side by side, a pulse at a time. What the chip measures goes by the case, and not by the ticks.
 use crate::case;
 use crate::case::byte;
 use crate::case::number;
 use crate::print;
 use crate::sample;
+use crate::whole;
 use chip::Chip;
+use host::Host;
+use host::Planned;
 use load::Load;
 use place::Phase;
 use place::Place;
 use receiver::Receiver;
 use session::Session;
-use session::Stepped;
+use ticks::PhaseTicks;
 use units::Bytes;
 use units::Loops;
 use units::Seen;
+use units::Ticks;
 
 // No session of S has more pulses: 832 before the image, 352 of it, and every wait to its last pair.
 const MOST_PULSES: u32 = 2_634;
@@ -39,6 +43,31 @@ struct Named {
     one: u32,
     zero: u32,
     seen: u32,
+}
+
+// Both sides once the pulses are over, and the tick of the last rise.
+struct Stopped {
+    host: Host,
+    chip: Chip,
+    rise: Ticks,
+}
+
+impl Stopped {
+    // The line of it, with the ticks of each phase where these are asked for.
+    fn print(self, phases: bool) {
+        let host = self.host;
+        let chip = self.chip;
+        print::number(print::PULSES, host.session.pulses as u64);
+        print::host(host.end());
+        print::chip(chip.end());
+        let receiver = chip.receiver;
+        let margins = receiver.margins;
+        print::margins(margins.nearest());
+        if phases {
+            print::number(print::TICKS, self.rise.0);
+            print::phases(host.phases);
+        }
+    }
 }
 
 impl Named {
@@ -108,15 +137,16 @@ pub(crate) fn case(line: &[u8]) {
     let image = image(line);
     let mut ram = [1u8; 32_768];
     let mut eeprom = sample::eeprom();
-    pulses(
+    let stopped = pulses(
         Named::of(line),
         number(line, case::STOPPED, MOST_PULSES),
-        session(line),
+        host(line),
         chip(line),
         &image,
         &mut ram,
         &mut eeprom,
     );
+    stopped.print(case::says(line, case::PHASES));
     print::sums(&ram, &eeprom);
 }
 
@@ -131,22 +161,25 @@ fn image(line: &[u8]) -> [u8; 44] {
 fn pulses(
     named: Named,
     most: u32,
-    mut session: Session,
+    mut host: Host,
     mut chip: Chip,
     image: &[u8],
     ram: &mut [u8],
     eeprom: &mut [u8],
-) {
+) -> Stopped {
+    let mut rise = Ticks(0);
     let mut reply = Seen::Silence;
     let mut n = 0;
     while n < most {
-        let step = session.step(image, named.seen(n, reply));
-        let Stepped::Sent(pulse) = step else {
+        let step = host.step(image, named.seen(n, reply));
+        let Planned::Taken(sent) = step else {
             break;
         };
-        session = pulse.session;
+        let bit = host.session.ones < sent.host.session.ones;
+        host = sent.host;
+        rise = sent.rise;
         n += 1;
-        match chip.step(ram, eeprom, named.wait(n), named.low(n, pulse.bit)) {
+        match chip.step(ram, eeprom, named.wait(n), named.low(n, bit)) {
             chip::Stepped::Refused(_) => reply = Seen::Silence,
             chip::Stepped::Taken(played) => {
                 chip = played.chip;
@@ -154,10 +187,19 @@ fn pulses(
             }
         }
     }
-    stopped(session, chip);
+    Stopped { host, chip, rise }
 }
 
-// The session of S before its first pulse, and the chip before it.
+// The host of S before its first pulse, and the chip before it.
+fn host(line: &[u8]) -> Host {
+    Host {
+        settings: whole::settings(line),
+        session: session(line),
+        time: 0,
+        phases: PhaseTicks::NONE,
+    }
+}
+
 fn session(line: &[u8]) -> Session {
     let command = number(line, case::COMMAND, 1);
     Session {
@@ -188,15 +230,4 @@ fn chip(line: &[u8]) -> Chip {
         fault: case::fault(line),
         receiver: Receiver::FRESH,
     }
-}
-
-fn stopped(session: Session, chip: Chip) {
-    print::number(print::PULSES, session.pulses as u64);
-    let place = session.place;
-    let phase = place.phase;
-    print::host(phase.end());
-    print::chip(chip.end());
-    let receiver = chip.receiver;
-    let margins = receiver.margins;
-    print::margins(margins.nearest());
 }

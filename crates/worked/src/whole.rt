@@ -7,6 +7,7 @@ use crate::case::byte;
 use crate::case::number;
 use crate::print;
 use crate::sample;
+use settings::Settings;
 
 // The bench: t and h in ns, the tick p and the chip's loop in ps.
 const T: u32 = 8_600;
@@ -27,18 +28,29 @@ pub(crate) fn case(line: &[u8]) {
     let b = size(line, case::EEPROM, 32_768);
     let ram = &mut ram[..a];
     let eeprom = &mut eeprom[..b];
-    print::ran(joined::run(
-        number(line, case::T, T),
-        number(line, case::H, H),
-        number(line, case::P, P),
+    let settings = settings(line);
+    let ran = joined::run(
+        settings.t,
+        settings.h,
+        settings.p,
         number(line, case::COMMAND, 1),
         &image[..length],
         case::fault(line),
         L,
         ram,
         eeprom,
-    ));
+    );
+    print::ran(ran, case::says(line, case::PHASES));
     print::sums(ram, eeprom);
+}
+
+// Made by hand: they need not be within their bounds.
+pub(crate) fn settings(line: &[u8]) -> Settings {
+    Settings {
+        t: number(line, case::T, T),
+        h: number(line, case::H, H),
+        p: number(line, case::P, P),
+    }
 }
 
 // S with a byte of another value. Byte 0 of S is 0.

@@ -12,7 +12,7 @@ end-requires c κs = search needs
 
 ending-requires : tie.Need-ending-requires
 ending-requires c κs =
-    let start = c .before .before .before .before .before .before .before in
+    let start = c .before .before .before .before .before .before .before .before in
     not-going (c .end .result) (start .args .end .host .session .place .phase) (c .end .ensures) (start .pre)
 
 end-requires-2 : tie.Need-end-requires-2
@@ -24,7 +24,7 @@ nearest-requires c κs = search needs
 returns : tie.Need-returns
 returns c =
     let chip = c .before in
-    let a = chip .before .before .before .before .before .before .before .before .before .args .end in
+    let a = chip .before .before .before .before .before .before .before .before .before .before .args .end in
     let ended = ap host.toldEnd (chip .before .ending .ensures) ∙ chip .before .before .end .ensures in
     λ i. record {
       pulses = a .host .session .pulses;
@@ -32,6 +32,7 @@ returns c =
       zeros = a .host .session .zeros;
       ticks = a .rise .0;
       risen = a .risen;
+      phases = a .host .phases;
       host = ended i;
       chip = chip .end2 .ensures i;
       nearest = c .nearest .ensures i;

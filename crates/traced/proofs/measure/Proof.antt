@@ -1,6 +1,6 @@
 -- `measure` ends after its pulses at the latest.
 -- Assumes nothing.
-use mathlib.Core.Path.{_≡_, refl}
+use mathlib.Core.Path.{_≡_, refl, _∙_}
 use Prim.Native.Nat.{_-_}
 use lib.ListN.{length}
 use native.Mathlib.Omega.{arith}
@@ -39,7 +39,10 @@ loop-less : tie.Need-loop-less Inv-loop μ-loop
 loop-less c = omega arith
 
 loop-again : tie.Need-loop-again Inv-loop μ-loop
-loop-again c = search needs
+loop-again c =
+    let kept = c .before .before .before .before .before .before .pulse .kept .1 .1 .1 .1 .1 in
+    let inv = c .before .before .before .before .before .before .before .before .before .before .before .before .before .before .before .loop .inv in
+    (kept .0 ∙ inv .0, kept .1 .0 ∙ inv .1, kept .1 .1 .0 ∙ inv .2)
 
 wait-place-requires : tie.Need-wait-place-requires Inv-loop μ-loop
 wait-place-requires c κs = tt

@@ -1,7 +1,7 @@
 -- `ranges::is_outside` tests the settings, then the time.
 -- Assumes nothing.
 use Rattle.terms.proofs.Refusals.{walk}
-use Rattle.host.specs.Step.{hostOutside}
+use Rattle.host.specs.Step.{timeOutside}
 use borrow.Author.Needs.{needs}
 use Rattle.host.proofs.ranges.is_outside.Statement.{statement}
 use Rattle.host.proofs.ranges.is_outside.Tie as tie
@@ -10,14 +10,14 @@ is-outside-requires : tie.Need-is-outside-requires
 is-outside-requires c κs = search needs
 
 returns : tie.Need-returns
-unfolding hostOutside
+unfolding timeOutside
 returns c = search walk depth 12
 
 is-late-requires : tie.Need-is-late-requires
 is-late-requires c κs = search needs
 
 returns-2 : tie.Need-returns-2
-unfolding hostOutside
+unfolding timeOutside
 returns-2 c = search walk depth 12
 
 pub is-outside-spec : {M : Type 1} → statement M

@@ -33,17 +33,11 @@ array-borrow-prefix-eeprom c = search needs
 slice-aggregate-eeprom : tie.Need-slice-aggregate-eeprom
 slice-aggregate-eeprom c = sym (length-take-le _ _ (array-borrow-prefix-eeprom (c .before)))
 
+settings-requires : tie.Need-settings-requires
+settings-requires c κs = tt
+
 number-requires : tie.Need-number-requires
 number-requires c κs = tt
-
-number-requires-2 : tie.Need-number-requires-2
-number-requires-2 c κs = tt
-
-number-requires-3 : tie.Need-number-requires-3
-number-requires-3 c κs = tt
-
-number-requires-4 : tie.Need-number-requires-4
-number-requires-4 c κs = tt
 
 array-share-prefix-image : tie.Need-array-share-prefix-image
 array-share-prefix-image c = search needs
@@ -56,6 +50,9 @@ fault-requires c κs = tt
 
 run-requires : tie.Need-run-requires
 run-requires c κs = tt
+
+says-requires : tie.Need-says-requires
+says-requires c κs = tt
 
 ran-requires : tie.Need-ran-requires
 ran-requires c κs = tt
@@ -79,14 +76,13 @@ case-spec =
     slice-aggregate-ram
     array-borrow-prefix-eeprom
     slice-aggregate-eeprom
+    settings-requires
     number-requires
-    number-requires-2
-    number-requires-3
-    number-requires-4
     array-share-prefix-image
     slice-aggregate-run
     fault-requires
     run-requires
+    says-requires
     ran-requires
     sums-requires
     returns)
