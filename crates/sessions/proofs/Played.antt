@@ -24,7 +24,7 @@ use Rattle.bits.specs.Bits.{sentBit}
 use Rattle.follow.specs.Follow.{opened, next}
 use Rattle.place.specs.Phases.{imagePulses, ended}
 use Rattle.range.specs.Ranges.{before}
-use Rattle.place.specs.declared.Phase.the-variants.{Calibration, Ended}
+use Rattle.place.specs.declared.Phase.the-variants.{Ended}
 use Rattle.place.specs.declared.Place.{Place}
 use Rattle.session.specs.Step.{stepRows, pulseOf, sessionStep}
 use Rattle.session.specs.declared.Pulse.{Pulse}
@@ -38,13 +38,13 @@ use Rattle.host.proofs.Legs.{tick-on}
 use Rattle.host.proofs.Steps.{fits, step-sent, step-refused, phases-sum, phases-each}
 use Rattle.ticks.specs.Ticks.{none, phaseNumber, ticksOf, sum, holder}
 use Rattle.ticks.specs.declared.PhaseTicks.{PhaseTicks}
-use Rattle.ticks.proofs.Sums.{none-ticks}
+use Rattle.ticks.proofs.Sums.{holder-first, holder-own, none-ticks}
 use Rattle.sessions.specs.Phases.{callsBefore, lastRise, stamp}
 use Rattle.sessions.specs.Sessions.{ones, zeros, unsent, session, many, pulse, edge, falls, rises, phaseAt, Sends}
 use Rattle.sessions.specs.Spelled.{Mark, Spelled}
 use Rattle.sessions.proofs.Edges.{edge-first, edge-on, rise-after, fall-after, ones-more, zeros-more}
 use Rattle.sessions.proofs.Moves.{Moves, stops, opens, stays, next-moves}
-use Rattle.sessions.proofs.Runs.{Onwards, Adds, share, spans-all, none-before, same-before}
+use Rattle.sessions.proofs.Runs.{share, Adds, Keeps, runs, none-before}
 use Rattle.sessions.proofs.Follows.{Follows, GoesOn, pulse-left, none-left}
 
 module _ (s : Settings) (load : Load) (size : ℕ) (lent : ℕ → List ℕ) (seen : ℕ → Seen)
@@ -269,32 +269,61 @@ module _ (s : Settings) (load : Load) (size : ℕ) (lent : ℕ → List ℕ) (se
     abbrev index : ℕ → ℕ
     index n = hosts n .session .place .index
 
+    abbrev holding : ℕ → ℕ
+    holding n = holder (standing n) (index n)
+
     abbrev lasting : ℕ → ℕ → ℕ
     lasting n q = ticksOf (hosts n .phases) q
 
     stands-in : (n : ℕ) → n < count → standing n ≡ phasing n
     stands-in n h = same-phase n (hosts n) (here n h) h
 
-    onwards-by : (n : ℕ) → ended (hosts (suc n) .session .place .phase) ≡ false → Moves (standing n) (hosts (suc n) .session .place)
-        → Onwards standing index n
-    onwards-by n on (stops e) = absurd (true≢false (sym e ∙ on))
-    onwards-by n on (opens i e) = inl (record { at-0 = i; next = e })
-    onwards-by n on (stays i e) = inr (record { past-0 = i; same = e })
-
-    moves : (n : ℕ) → suc n < count → Onwards standing index n
+    -- From a call to the next one: the session has not ended.
+    moves : (n : ℕ) → suc n < count → Moves (standing n) (hosts (suc n) .session .place)
     moves n h =
         let before : n < count = omega (arith, h) in
         let at = here n before in
-        let goes-on : ended (hosts (suc n) .session .place .phase) ≡ false = goes (suc n) (hosts (suc n)) (here (suc n) h) h .on in
         let there : hosts (suc n) .session .place ≡ next load (hosts n .session .place .phase) (index n) (seen n) =
         ap (λ (y : Host). y .session .place) (hosts-suc n at before) ∙ place-next n (hosts n) at before in
-        onwards-by n goes-on
-        (subst (Moves (standing n)) (sym there)
-        (next-moves load (hosts n .session .place .phase) (index n) (seen n) (goes n (hosts n) at before .on)))
+        subst (Moves (standing n)) (sym there)
+        (next-moves load (hosts n .session .place .phase) (index n) (seen n) (goes n (hosts n) at before .on))
 
-    adding : (n : ℕ) → n < count → Adds standing index falling rising lasting n
+    goes-on : (n : ℕ) → n < count → ended (hosts n .session .place .phase) ≡ false
+    goes-on n h = goes n (hosts n) (here n h) h .on
+
+    onwards : (n : ℕ) → n + 1 < count → (phasing (n + 1) ≡ phasing n + 1) ⊎ (phasing (n + 1) ≡ phasing n)
+    onwards n h =
+        let later : suc n < count = omega (arith, h) in
+        let this = stands-in n (omega (arith, h)) in
+        let next = stands-in (suc n) later ∙ ap phasing (sym (add-one n)) in
+        elim (moves n later) [
+          | stops e ↦ absurd (true≢false (sym e ∙ goes-on (suc n) later))
+          | opens i e ↦ inl (omega (arith, e, this, next))
+          | stays i e ↦ inr (omega (arith, e, this, next))
+        ]
+
+    keeps : (n : ℕ) → suc n < count → Keeps phasing holding n
+    keeps n h =
+        let this = stands-in n (omega (arith, h)) in
+        let next = stands-in (suc n) h in
+        elim (moves n h) [
+          | stops e ↦ absurd (true≢false (sym e ∙ goes-on (suc n) h))
+          | opens i e ↦ record {
+            held = omega (arith, holder-first (standing (suc n)) (index (suc n)) i, e, this);
+            onwards = omega (arith, e, this, next);
+          }
+          | stays i e ↦ record {
+            held = holder-own (standing (suc n)) (index (suc n)) i ∙ e ∙ this;
+            onwards = omega (arith, e, this, next);
+          }
+        ]
+
+    adding : (n : ℕ) → n < count → Adds phasing holding falling rising lasting n
     adding n h = record {
-      adds = λ q. ap (λ (y : Host). ticksOf (y .phases) q) (hosts-suc n (here n h) h) ∙ shared n (hosts n) (here n h) h q;
+      adds = λ q.
+          ap (λ (y : Host). ticksOf (y .phases) q) (hosts-suc n (here n h) h)
+          ∙ shared n (hosts n) (here n h) h q
+          ∙ ap (λ (k : ℕ). lasting n q + share q (holding n) (falling n - lastRise rising n) + share q k (rising n - falling n)) (stands-in n h);
     }
 
     first-fall : falling 0 ≡ 0
@@ -310,42 +339,22 @@ module _ (s : Settings) (load : Load) (size : ℕ) (lent : ℕ → List ℕ) (se
         let two : 2 * suc n ≡ suc (2 * n + 1) = omega arith in
         tick-on (time (2 * n + 1)) (time (2 * suc n)) (s .p) some-tick (omega (arith, edge-on s (whole .pulses) (2 * n + 1), ap time two))
 
-    module _ (begins : x .session .place ≡ opened Calibration) (empty : x .phases ≡ none) where
-      runs : (n q : ℕ) → n ≤ count
-          → stamp falling rising n (callsBefore standing n q) + lasting n q ≡ stamp falling rising n (callsBefore standing n (suc q))
-      runs n q h =
-          spans-all standing index falling rising lasting
-          (ap (λ (p : Place). phaseNumber (p .phase)) begins) (ap (λ (p : Place). p .index) begins) first-fall
-          (λ k. ap (λ (p : PhaseTicks). ticksOf p k) empty ∙ none-ticks k) falls-rises rises-falls
-          n (λ k b. moves k (omega (arith, b, h))) (λ k b. adding k (omega (arith, b, h))) q
-
-      runs-spelled : (n q : ℕ) → n ≤ count
+    module _ (empty : x .phases ≡ none) where
+      runs-on : (n q : ℕ) → n ≤ count
           → stamp falling rising n (callsBefore phasing n q) + lasting n q ≡ stamp falling rising n (callsBefore phasing n (q + 1))
-      runs-spelled n q h =
-          let same : (k : ℕ) → callsBefore standing n k ≡ callsBefore phasing n k =
-          λ k. same-before standing phasing k n (λ l b. stands-in l (omega (arith, b, h))) in
-          let from = ap (stamp falling rising n) (same q) in
-          let to = ap (stamp falling rising n) (same (suc q) ∙ ap (callsBefore phasing n) (sym (add-one q))) in
-          omega (arith, runs n q h, from, to)
+      runs-on n q h =
+          let to = ap (λ (k : ℕ). stamp falling rising n (callsBefore phasing n k)) (add-one q) in
+          let run = runs phasing holding falling rising lasting first-fall (λ k. ap (λ (p : PhaseTicks). ticksOf p k) empty ∙ none-ticks k)
+          falls-rises rises-falls n (λ k b. keeps k (omega (arith, b, h))) (λ k b. adding k (omega (arith, b, h))) q in
+          omega (arith, run, to)
 
       runs-none : (n q : ℕ) → n ≤ count → ((k : ℕ) → k < n → phasing k ≡ q → ⊥) → lasting n q ≡ 0
       runs-none n q h none =
-          let same =
-          ap (stamp falling rising n) (none-before standing n q (λ k b e. none k b (sym (stands-in k (omega (arith, b, h))) ∙ e))) in
-          omega (arith, runs n q h, same)
+          let same = ap (stamp falling rising n) (ap (callsBefore phasing n) (add-one q) ∙ none-before phasing n q none) in
+          omega (arith, runs-on n q h, same)
 
-    onwards-spelled : (n : ℕ) → n + 1 < count → (phasing (n + 1) ≡ phasing n + 1) ⊎ (phasing (n + 1) ≡ phasing n)
-    onwards-spelled n h =
-        let this = stands-in n (omega (arith, h)) in
-        let next : standing (suc n) ≡ phasing (n + 1) = stands-in (suc n) (omega (arith, h)) ∙ ap phasing (sym (add-one n)) in
-        elim (moves n (omega (arith, h))) [
-          | inl o ↦ inl (omega (arith, o .next, this, next))
-          | inr s ↦ inr (omega (arith, s .same, this, next))
-        ]
-
-    pub plays : load .length .0 ≤ size → x .session .place ≡ opened Calibration → x .phases ≡ none
-        → Sends s (load .command) size lent seen x
-    plays short begins empty = record {
+    pub plays : load .length .0 ≤ size → x .phases ≡ none → Sends s (load .command) size lent seen x
+    plays short empty = record {
       hosts = hosts;
       first = refl;
       steps = step-is;
@@ -357,10 +366,10 @@ module _ (s : Settings) (load : Load) (size : ℕ) (lent : ℕ → List ℕ) (se
       counted-ones = λ n h. hosts-at n h .counted-ones;
       counted-zeros = λ n h. hosts-at n h .counted-zeros;
       stands = stands-in;
-      onwards = onwards-spelled;
+      onwards = onwards;
       phases-sum = λ n h. hosts-at n h .summed;
-      phases-each = runs-spelled begins empty;
-      phases-none = runs-none begins empty;
+      phases-each = runs-on empty;
+      phases-none = runs-none empty;
       not-late = λ k. div-mul-le-self (time k) (s .p);
       early = λ k. lt-div-mul-add some-tick;
       bound = omega (arith, few, short);

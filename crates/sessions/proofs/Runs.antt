@@ -1,44 +1,75 @@
--- Each phase's ticks, got by adding each pulse's gap and low, are the difference of the ticks at which it and the next one open.
+-- Each phase's ticks are the difference of the ticks at which it and the next one begin: what the phases before one have got is where it
+-- begins. Numbers alone: no phase has a name here, and no host is met.
 -- Assumes nothing.
 use mathlib.Core.Bool.{Bool, true, false}
-use mathlib.Core.Logic.{_⊎_, inl, inr}
-use mathlib.Core.Path.{_≡_, refl, sym, ap, ap₂, _∙_}
+use mathlib.Core.Path.{_≡_, refl, sym, ap, _∙_}
 use Prim.Native.Nat.{ℕ, zero, suc, _+_, _-_, _≤_, _<_}
-use native.Mathlib.Nat.{add-zero, add-suc}
 use native.Mathlib.Omega.{arith}
 use lib.Dec.{ltb, eqb}
-use borrow.Author.Tests.{ltb-true, ltb-false, eqb-true, eqb-false, lt-ltb, le-ltb, eq-eqb, ne-eqb}
+use borrow.Author.Tests.{ltb-true, ltb-false, eqb-true, eqb-false, lt-ltb, le-ltb, ne-eqb}
 use Rattle.terms.specs.Choice.{when}
 use Rattle.terms.proofs.Tests.{when-true, when-false, when-elim}
-use Rattle.ticks.specs.Ticks.{holder}
 use Rattle.sessions.specs.Phases.{callsBefore, lastRise, stamp}
 
--- Call n opens the phase after the one before it, or stays in that.
-pub record Opens (phase index : ℕ → ℕ) (n : ℕ) : Type 0 where
-  pub at-0 : index (suc n) ≡ 0
-  pub next : phase (suc n) ≡ suc (phase n)
+-- What phase q gets of ticks that are another's, or its own.
+abbrev pub share : ℕ → ℕ → ℕ → ℕ
+share q holder x = when (eqb q holder) x 0
 
-pub record Stays (phase index : ℕ → ℕ) (n : ℕ) : Type 0 where
-  pub past-0 : index (suc n) ≡ 0 → ⊥
-  pub same : phase (suc n) ≡ phase n
+-- What the phases before q get of them.
+abbrev portion : ℕ → ℕ → ℕ → ℕ
+portion q holder x = when (ltb holder q) x 0
 
-module _ (phase index : ℕ → ℕ) where
-  abbrev pub Onwards : ℕ → Type 0
-  Onwards n = Opens phase index n ⊎ Stays phase index n
+module _ (q holder x : ℕ) where
+  portion-all : holder < q → portion q holder x ≡ x
+  portion-all h = when-true _ _ (lt-ltb holder q h)
 
-  rises-on : (n : ℕ) → Onwards n → phase n ≤ phase (suc n)
-  rises-on n (inl o) = omega (arith, o .next)
-  rises-on n (inr s) = omega (arith, s .same)
+  portion-none : q ≤ holder → portion q holder x ≡ 0
+  portion-none h = when-false _ _ (le-ltb holder q h)
 
-  -- Where the calls so far are of phases that never go back.
-  module _ (n : ℕ) (on : (k : ℕ) → k < n → Onwards k) where
-    all-before : (k q : ℕ) → k ≤ n → phase k < q → callsBefore phase k q ≡ k
-    unfolding callsBefore
-    all-before zero q h b = refl
-    all-before (suc k) q h b =
-        let here : phase k < q = omega (arith, rises-on k (on k h), b) in
-        let rest = all-before k q (omega (arith, h)) here in
-        ap (λ (x : ℕ). callsBefore phase k q + x) (when-true 1 0 (lt-ltb (phase k) q here)) ∙ omega (arith, rest)
+portion-more : (q holder x : ℕ) → portion (suc q) holder x ≡ portion q holder x + share q holder x
+portion-more q holder x = decide (ltb holder q) refl (eqb q holder) refl where
+  decide : (b : Bool) → ltb holder q ≡ b → (d : Bool) → eqb q holder ≡ d → portion (suc q) holder x ≡ portion q holder x + share q holder x
+  decide true e d f =
+      let h = ltb-true holder q e in
+      let none : share q holder x ≡ 0 = when-false _ _ (ne-eqb q holder (λ z. omega (arith, h, z))) in
+      omega (arith, none, portion-all q holder x h, portion-all (suc q) holder x (omega (arith, h)))
+  decide false e true f =
+      let h = eqb-true q holder f in
+      let all : share q holder x ≡ x = when-true _ _ f in
+      omega (arith, all, portion-none q holder x (omega (arith, h)), portion-all (suc q) holder x (omega (arith, h)))
+  decide false e false f =
+      let h = ltb-false holder q e in
+      let other = eqb-false q holder f in
+      let none : share q holder x ≡ 0 = when-false _ _ f in
+      omega (arith, none, portion-none q holder x h, portion-none (suc q) holder x (omega (arith, h, other)))
+
+-- The ticks of the phases before q.
+unfoldable below : (ℕ → ℕ) → ℕ → ℕ
+below ticks zero = 0
+below ticks (suc q) = below ticks q + ticks q
+
+below-none : (ticks : ℕ → ℕ) → ((q : ℕ) → ticks q ≡ 0) → (q : ℕ) → below ticks q ≡ 0
+unfolding below
+below-none ticks none zero = refl
+below-none ticks none (suc q) = omega (arith, below-none ticks none q, none q)
+
+below-more : (ticks more : ℕ → ℕ) (h x o y : ℕ) → ((q : ℕ) → more q ≡ ticks q + share q h x + share q o y)
+    → (q : ℕ) → below more q ≡ below ticks q + portion q h x + portion q o y
+unfolding below
+below-more ticks more h x o y adds zero =
+    omega (arith, portion-none 0 h x (omega arith), portion-none 0 o y (omega arith))
+below-more ticks more h x o y adds (suc q) =
+    omega (arith, below-more ticks more h x o y adds q, adds q, portion-more q h x, portion-more q o y)
+
+-- How many calls stood in phases before q.
+module _ (phase : ℕ → ℕ) where
+  call-counts : (k q : ℕ) → phase k < q → callsBefore phase (suc k) q ≡ suc (callsBefore phase k q)
+  unfolding callsBefore
+  call-counts k q h = omega (arith, when-true {A = ℕ} 1 0 (lt-ltb (phase k) q h))
+
+  call-passes : (k q : ℕ) → q ≤ phase k → callsBefore phase (suc k) q ≡ callsBefore phase k q
+  unfolding callsBefore
+  call-passes k q h = omega (arith, when-false {A = ℕ} 1 0 (le-ltb (phase k) q h))
 
   before-most : (k q : ℕ) → callsBefore phase k q ≤ k
   unfolding callsBefore
@@ -47,14 +78,13 @@ module _ (phase index : ℕ → ℕ) where
       when-elim (λ (x : ℕ). callsBefore phase k q + x ≤ suc k) (ltb (phase k) q) 1 0
       (λ e. omega (arith, before-most k q)) (λ e. omega (arith, before-most k q))
 
-  -- A call of this phase or of a later one doesn't count.
-  before-stays : (k q : ℕ) → q ≤ phase k → callsBefore phase (suc k) q ≡ callsBefore phase k q
+  -- All of them, where phases don't go back and the last stands before q.
+  before-all : (k q : ℕ) → ((l : ℕ) → l < k → phase l ≤ phase (suc l)) → phase k < q → callsBefore phase (suc k) q ≡ suc k
   unfolding callsBefore
-  before-stays k q h = omega (arith, when-false {A = ℕ} 1 0 (le-ltb (phase k) q h))
-
-  before-more : (k q : ℕ) → phase k < q → callsBefore phase (suc k) q ≡ suc (callsBefore phase k q)
-  unfolding callsBefore
-  before-more k q h = omega (arith, when-true {A = ℕ} 1 0 (lt-ltb (phase k) q h))
+  before-all zero q on h = call-counts zero q h
+  before-all (suc k) q on h =
+      let rest = before-all k q (λ l b. on l (omega (arith, b))) (omega (arith, on k (omega arith), h)) in
+      omega (arith, call-counts (suc k) q h, rest)
 
 module _ (fall rise : ℕ → ℕ) where
   stamp-fall : (n k : ℕ) → k < n → stamp fall rise n k ≡ fall k
@@ -65,272 +95,156 @@ module _ (fall rise : ℕ → ℕ) where
   unfolding stamp
   stamp-last n k h = when-false _ _ (le-ltb k n h)
 
--- What a phase gets of the ticks of a pulse.
-abbrev pub share : ℕ → ℕ → ℕ → ℕ
-share q holder x = when (eqb q holder) x 0
-
--- Ticks by numbers: `ticks n q` before call n.
-pub record Adds (phase index fall rise : ℕ → ℕ) (ticks : ℕ → ℕ → ℕ) (n : ℕ) : Type 0 where
+-- Call n adds to the ticks of the phases what its pulse takes: the ticks since the last rise to `holder n`, those of its low to its own.
+pub record Adds (phase holder fall rise : ℕ → ℕ) (ticks : ℕ → ℕ → ℕ) (n : ℕ) : Type 0 where
   pub adds : (q : ℕ) → ticks (suc n) q
-      ≡ ticks n q + share q (holder (phase n) (index n)) (fall n - lastRise rise n) + share q (phase n) (rise n - fall n)
+      ≡ ticks n q + share q (holder n) (fall n - lastRise rise n) + share q (phase n) (rise n - fall n)
 
-module _ (phase index fall rise : ℕ → ℕ) (ticks : ℕ → ℕ → ℕ) (first-phase : phase 0 ≡ 0) (first-index : index 0 ≡ 0)
-    (first-fall : fall 0 ≡ 0) (first-ticks : (q : ℕ) → ticks 0 q ≡ 0)
+-- What comes before the next call's fall is of this call's phase, and phases don't go back.
+pub record Keeps (phase holder : ℕ → ℕ) (n : ℕ) : Type 0 where
+  pub held : holder (suc n) ≡ phase n
+  pub onwards : phase n ≤ phase (suc n)
+
+module _ (phase holder fall rise : ℕ → ℕ) (ticks : ℕ → ℕ → ℕ) (first-fall : fall 0 ≡ 0) (first-ticks : (q : ℕ) → ticks 0 q ≡ 0)
     (up : (k : ℕ) → fall k ≤ rise k) (down : (k : ℕ) → rise k ≤ fall (suc k)) where
-  abbrev Spans : ℕ → Type 0
-  Spans n = (q : ℕ) → stamp fall rise n (callsBefore phase n q) + ticks n q ≡ stamp fall rise n (callsBefore phase n (suc q))
+  -- Where phase q begins, as it is known before call n.
+  abbrev begins : ℕ → ℕ → ℕ
+  begins n q = stamp fall rise n (callsBefore phase n q)
 
-  falls-later : (a k : ℕ) → fall a ≤ rise (a + k)
-  falls-later a zero = omega (arith, up a, ap rise (add-zero a))
-  falls-later a (suc k) = omega (arith, falls-later a k, down (a + k), up (suc (a + k)), ap rise (add-suc a k))
+  abbrev Begun : ℕ → Type 0
+  Begun n = (q : ℕ) → below (ticks n) q ≡ begins n q
 
-  last-after : (a n : ℕ) → a < n → fall a ≤ lastRise rise n
-  last-after a (suc n) h =
-      let is : a + (n - a) ≡ n = omega (arith, h) in
-      omega (arith, falls-later a (n - a), ap rise is)
+  -- Where all calls before call n stood in phases before q, that is the last rise.
+  all-before : (n q : ℕ) → callsBefore phase n q ≡ n → begins n q ≡ lastRise rise n
+  all-before n q e = ap (stamp fall rise n) e ∙ stamp-last fall rise n n (omega arith)
 
-  last-before : (n : ℕ) → lastRise rise n ≤ fall n
-  last-before zero = omega arith
-  last-before (suc n) = down n
+  -- Call k is the first of phase q or of a later one, and came before call n.
+  first-of : (n k q : ℕ) → callsBefore phase n q ≡ k → k < n → begins n q ≡ fall k
+  first-of n k q e h = ap (stamp fall rise n) e ∙ stamp-fall fall rise n k h
 
-  share-own : (q holder x : ℕ) → q ≡ holder → share q holder x ≡ x
-  share-own q holder x e = when-true _ _ (eq-eqb q holder e)
+  module _ (n : ℕ) (adds : Adds phase holder fall rise ticks n) (q : ℕ) where
+    after : below (ticks (suc n)) q
+        ≡ below (ticks n) q + portion q (holder n) (fall n - lastRise rise n) + portion q (phase n) (rise n - fall n)
+    after = below-more (ticks n) (ticks (suc n)) _ _ _ _ (adds .adds) q
 
-  share-none : (q holder x : ℕ) → (q ≡ holder → ⊥) → share q holder x ≡ 0
-  share-none q holder x e = when-false _ _ (ne-eqb q holder e)
-
-  -- Where call n stands among those before it: it opens its phase, or others of its phase came before it.
-  record New (n : ℕ) : Type 0 where
-    pub at-0 : index n ≡ 0
-    pub full : (q : ℕ) → phase n ≤ q → callsBefore phase n q ≡ n
-    pub short : (q : ℕ) → q < phase n → callsBefore phase n q < n
-    pub no-gap : phase n ≡ 0 → fall n - lastRise rise n ≡ 0
-
-  record Old (n : ℕ) : Type 0 where
-    pub past-0 : index n ≡ 0 → ⊥
-    pub full : (q : ℕ) → phase n < q → callsBefore phase n q ≡ n
-    pub short : (q : ℕ) → q ≤ phase n → callsBefore phase n q < n
-
-  module _ (n : ℕ) (spans : Spans n) (adds : Adds phase index fall rise ticks n) where
-    abbrev gap : ℕ
-    gap = fall n - lastRise rise n
-
-    abbrev After : ℕ → Type 0
-    After q =
-        stamp fall rise (suc n) (callsBefore phase (suc n) q) + ticks (suc n) q
-        ≡ stamp fall rise (suc n) (callsBefore phase (suc n) (suc q))
-
-    -- A phase past this one has nothing, before and after.
-    past : (q : ℕ) → phase n < q → callsBefore phase n q ≡ n → callsBefore phase n (suc q) ≡ n
-        → (holder (phase n) (index n) ≤ phase n)
-        → After q
-    past q h a b low =
-        let a′ = before-more phase index n q h in
-        let b′ = before-more phase index n (suc q) (omega (arith, h)) in
-        omega (
-          arith,
-          spans q,
-          adds .adds q,
-          a,
-          b,
-          a′,
-          b′,
-          share-none q (holder (phase n) (index n)) gap (λ e. omega (arith, e, h, low)),
-          share-none q (phase n) (rise n - fall n) (λ e. omega (arith, e, h)),
-          ap (stamp fall rise n) a,
-          ap (stamp fall rise n) b,
-          stamp-last fall rise (suc n) (callsBefore phase (suc n) (suc q)) (omega (arith, b, b′)),
-          stamp-last fall rise (suc n) (callsBefore phase (suc n) q) (omega (arith, a, a′)),
-        )
-
-    -- A phase that closed before this call stays as it is.
-    closed : (q : ℕ) → suc q ≤ phase n → callsBefore phase n q < n → callsBefore phase n (suc q) < n
-        → (holder (phase n) (index n) ≡ q → ⊥) → After q
-    closed q h a b other =
-        let a′ = before-stays phase index n q (omega (arith, h)) in
-        let b′ = before-stays phase index n (suc q) h in
-        omega (
-          arith,
-          spans q,
-          adds .adds q,
-          share-none q (holder (phase n) (index n)) gap (λ e. other (sym e)),
-          share-none q (phase n) (rise n - fall n) (λ e. omega (arith, e, h)),
-          ap (stamp fall rise (suc n)) a′,
-          ap (stamp fall rise (suc n)) b′,
-          stamp-fall fall rise n (callsBefore phase n q) a,
-          stamp-fall fall rise n (callsBefore phase n (suc q)) b,
-          stamp-fall fall rise (suc n) (callsBefore phase n q) (omega (arith, a)),
-          stamp-fall fall rise (suc n) (callsBefore phase n (suc q)) (omega (arith, b)),
-        )
-
-    module _ (new : New n) where
-      held : holder (phase n) (index n) ≡ phase n - 1
-      unfolding holder
-      held = when-true _ _ (eq-eqb (index n) 0 (new .at-0))
-
-      -- The phase before gets the gap.
-      closes : (q : ℕ) → suc q ≡ phase n → After q
-      closes q h =
-          let a = new .short q (omega (arith, h)) in
-          let b = new .full (suc q) (omega (arith, h)) in
-          let a′ = before-stays phase index n q (omega (arith, h)) in
-          let b′ = before-stays phase index n (suc q) (omega (arith, h)) in
-          omega (
-            arith,
-            spans q,
-            adds .adds q,
-            share-own q (holder (phase n) (index n)) gap (omega (arith, held, h)),
-            share-none q (phase n) (rise n - fall n) (λ e. omega (arith, e, h)),
-            ap (stamp fall rise (suc n)) a′,
-            ap (stamp fall rise (suc n)) b′,
-            ap (stamp fall rise (suc n)) b,
-            ap (stamp fall rise n) b,
-            stamp-fall fall rise n (callsBefore phase n q) a,
-            stamp-last fall rise n n (omega arith),
-            stamp-fall fall rise (suc n) (callsBefore phase n q) (omega (arith, a)),
-            stamp-fall fall rise (suc n) n (omega arith),
-            last-after (callsBefore phase n q) n a,
-            last-before n,
-          )
-
-      -- Its own gets the low.
-      begins : (q : ℕ) → q ≡ phase n → After q
-      begins q h =
-          let a = new .full q (omega (arith, h)) in
-          let b = new .full (suc q) (omega (arith, h)) in
-          let a′ = before-stays phase index n q (omega (arith, h)) in
-          let b′ = before-more phase index n (suc q) (omega (arith, h)) in
-          let none : share q (holder (phase n) (index n)) gap ≡ 0 =
-          when-elim (λ (x : ℕ). x ≡ 0) (eqb q (holder (phase n) (index n))) gap 0
-          (λ e. let is = eqb-true q (holder (phase n) (index n)) e in new .no-gap (omega (arith, is, held, h))) (λ e. refl) in
-          omega (
-            arith,
-            spans q,
-            adds .adds q,
-            none,
-            share-own q (phase n) (rise n - fall n) h,
-            ap (stamp fall rise n) a,
-            ap (stamp fall rise n) b,
-            ap (stamp fall rise (suc n)) a′,
-            ap (stamp fall rise (suc n)) a,
-            stamp-fall fall rise (suc n) n (omega arith),
-            stamp-last fall rise (suc n) (callsBefore phase (suc n) (suc q)) (omega (arith, b, b′)),
-            up n,
-          )
-
-      opened : (q : ℕ) (b d : Bool) → ltb (phase n) q ≡ b → eqb q (phase n) ≡ d → (e : Bool) → eqb (suc q) (phase n) ≡ e → After q
-      opened q true d x y e z =
-          let h = ltb-true (phase n) q x in
-          past q h (new .full q (omega (arith, h))) (new .full (suc q) (omega (arith, h))) (omega (arith, held))
-      opened q false true x y e z = begins q (eqb-true q (phase n) y)
-      opened q false false x y true z = closes q (eqb-true (suc q) (phase n) z)
-      opened q false false x y false z =
-          let h = ltb-false (phase n) q x in
-          let u = eqb-false q (phase n) y in
-          let v = eqb-false (suc q) (phase n) z in
-          closed q (omega (arith, h, u)) (new .short q (omega (arith, h, u))) (new .short (suc q) (omega (arith, h, u, v)))
-          (λ w. v (omega (arith, w, held, h, u)))
-
-    module _ (old : Old n) where
-      kept : holder (phase n) (index n) ≡ phase n
-      unfolding holder
-      kept = when-false _ _ (ne-eqb (index n) 0 (old .past-0))
-
-      goes : (q : ℕ) → q ≡ phase n → After q
-      goes q h =
-          let a = old .short q (omega (arith, h)) in
-          let b = old .full (suc q) (omega (arith, h)) in
-          let a′ = before-stays phase index n q (omega (arith, h)) in
-          let b′ = before-more phase index n (suc q) (omega (arith, h)) in
-          omega (
-            arith,
-            spans q,
-            adds .adds q,
-            share-own q (holder (phase n) (index n)) gap (omega (arith, kept, h)),
-            share-own q (phase n) (rise n - fall n) h,
-            ap (stamp fall rise n) b,
-            ap (stamp fall rise (suc n)) a′,
-            stamp-fall fall rise n (callsBefore phase n q) a,
-            stamp-last fall rise n n (omega arith),
-            stamp-fall fall rise (suc n) (callsBefore phase n q) (omega (arith, a)),
-            stamp-last fall rise (suc n) (callsBefore phase (suc n) (suc q)) (omega (arith, b, b′)),
-            last-after (callsBefore phase n q) n a,
-            last-before n,
-            up n,
-          )
-
-      stayed : (q : ℕ) (b d : Bool) → ltb (phase n) q ≡ b → eqb q (phase n) ≡ d → After q
-      stayed q true d x y =
-          let h = ltb-true (phase n) q x in
-          past q h (old .full q h) (old .full (suc q) (omega (arith, h))) (omega (arith, kept))
-      stayed q false true x y = goes q (eqb-true q (phase n) y)
-      stayed q false false x y =
-          let h = ltb-false (phase n) q x in
-          let u = eqb-false q (phase n) y in
-          closed q (omega (arith, h, u)) (old .short q h) (old .short (suc q) (omega (arith, h, u))) (λ w. u (omega (arith, w, kept)))
-
-  -- Where a call stands, by the one before it.
-  abbrev Standing : ℕ → Type 0
-  Standing n = New n ⊎ Old n
-
-  standing : (n : ℕ) → ((k : ℕ) → k < n → Onwards phase index k) → Standing n
+  -- The first call.
+  begun-first : Adds phase holder fall rise ticks 0 → Begun 1
   unfolding callsBefore
-  standing zero on = inl (record {
-    at-0 = first-index;
-    full = λ q h. refl;
-    short = λ q h. omega (arith, h, first-phase);
-    no-gap = λ e. omega (arith, first-fall);
-  })
-  standing (suc n) on = elim (on n (omega arith)) [
-    | inl o ↦ inl (record {
-      at-0 = o .at-0;
-      full = λ q h.
-          let below : phase n < q = omega (arith, h, o .next) in
-          omega (arith, before-more phase index n q below, all-before phase index n (λ k z. on k (omega (arith, z))) n q (omega arith) below);
-      short = λ q h. omega (arith, before-stays phase index n q (omega (arith, h, o .next)), before-most phase index n q);
-      no-gap = λ e. absurd (omega (arith, e, o .next));
-    })
-    | inr s ↦ inr (record {
-      past-0 = s .past-0;
-      full = λ q h.
-          let below : phase n < q = omega (arith, h, s .same) in
-          omega (arith, before-more phase index n q below, all-before phase index n (λ k z. on k (omega (arith, z))) n q (omega arith) below);
-      short = λ q h. omega (arith, before-stays phase index n q (omega (arith, h, s .same)), before-most phase index n q);
-    })
-  ]
+  begun-first adds q = decide (ltb (phase 0) q) refl where
+    nothing : portion q (holder 0) (fall 0 - lastRise rise 0) ≡ 0
+    nothing = when-elim (λ (x : ℕ). x ≡ 0) (ltb (holder 0) q) (fall 0 - lastRise rise 0) 0 (λ e. omega (arith, first-fall)) (λ e. refl)
 
-  spans-next : (n : ℕ) → ((k : ℕ) → k < n → Onwards phase index k) → Adds phase index fall rise ticks n → Spans n → Spans (suc n)
-  spans-next n on adds spans q = elim (standing n on) [
-    | inl new ↦ opened n spans adds new q (ltb (phase n) q) (eqb q (phase n)) refl refl (eqb (suc q) (phase n)) refl
-    | inr old ↦ stayed n spans adds old q (ltb (phase n) q) (eqb q (phase n)) refl refl
-  ]
+    decide : (b : Bool) → ltb (phase 0) q ≡ b → below (ticks 1) q ≡ begins 1 q
+    decide true e =
+        let h = ltb-true (phase 0) q e in
+        omega (
+          arith,
+          after 0 adds q,
+          below-none (ticks 0) first-ticks q,
+          nothing,
+          portion-all q (phase 0) (rise 0 - fall 0) h,
+          first-fall,
+          all-before 1 q (call-counts phase 0 q h),
+        )
+    decide false e =
+        let h = ltb-false (phase 0) q e in
+        omega (
+          arith,
+          after 0 adds q,
+          below-none (ticks 0) first-ticks q,
+          nothing,
+          portion-none q (phase 0) (rise 0 - fall 0) h,
+          first-fall,
+          first-of 1 0 q (call-passes phase 0 q h) (omega arith),
+        )
 
-  pub spans-all : (n : ℕ) → ((k : ℕ) → suc k < n → Onwards phase index k) → ((k : ℕ) → k < n → Adds phase index fall rise ticks k) → Spans n
-  unfolding callsBefore stamp
-  spans-all zero on adds = λ q. omega (arith, first-ticks q)
-  spans-all (suc n) on adds =
-      spans-next n (λ k h. on k (omega (arith, h))) (adds n (omega arith))
-      (spans-all n (λ k h. on k (omega (arith, h))) (λ k h. adds k (omega (arith, h))))
+  -- A call after call m.
+  module _ (m : ℕ) (adds : Adds phase holder fall rise ticks (suc m)) (keeps : Keeps phase holder m)
+      (on : (l : ℕ) → l < m → phase l ≤ phase (suc l)) (begun : Begun (suc m)) (q : ℕ) where
+    abbrev n : ℕ
+    n = suc m
 
--- A phase in which no call stood opens and closes at once.
-pub none-before : (phase : ℕ → ℕ) (n q : ℕ) → ((k : ℕ) → k < n → phase k ≡ q → ⊥)
-    → callsBefore phase n (suc q) ≡ callsBefore phase n q
+    abbrev Next : Type 0
+    Next = below (ticks (suc n)) q ≡ begins (suc n) q
+
+    -- Both stand before q, call m alone, or neither.
+    past : phase n < q → Next
+    past h =
+        let before : phase m < q = omega (arith, h, keeps .onwards) in
+        let all = before-all phase m q on before in
+        omega (
+          arith,
+          after n adds q,
+          begun q,
+          all-before n q all,
+          down m,
+          up n,
+          portion-all q (holder n) (fall n - rise m) (omega (arith, keeps .held, before)),
+          portion-all q (phase n) (rise n - fall n) h,
+          all-before (suc n) q (omega (arith, call-counts phase n q h, all)),
+        )
+
+    opens : q ≤ phase n → phase m < q → Next
+    opens h before =
+        let all = before-all phase m q on before in
+        omega (
+          arith,
+          after n adds q,
+          begun q,
+          all-before n q all,
+          down m,
+          portion-all q (holder n) (fall n - rise m) (omega (arith, keeps .held, before)),
+          portion-none q (phase n) (rise n - fall n) h,
+          first-of (suc n) n q (omega (arith, call-passes phase n q h, all)) (omega arith),
+        )
+
+    stays : q ≤ phase n → q ≤ phase m → Next
+    stays h before =
+        let first = callsBefore phase m q in
+        let early = before-most phase m q in
+        let passed = call-passes phase m q before in
+        omega (
+          arith,
+          after n adds q,
+          begun q,
+          portion-none q (holder n) (fall n - rise m) (omega (arith, keeps .held, before)),
+          portion-none q (phase n) (rise n - fall n) h,
+          first-of n first q passed (omega (arith, early)),
+          first-of (suc n) first q (call-passes phase n q h ∙ passed) (omega (arith, early)),
+        )
+
+    begun-next : Next
+    begun-next = decide (ltb (phase n) q) refl (ltb (phase m) q) refl where
+      decide : (b : Bool) → ltb (phase n) q ≡ b → (d : Bool) → ltb (phase m) q ≡ d → Next
+      decide true e d f = past (ltb-true (phase n) q e)
+      decide false e true f = opens (ltb-false (phase n) q e) (ltb-true (phase m) q f)
+      decide false e false f = stays (ltb-false (phase n) q e) (ltb-false (phase m) q f)
+
+  begun-all : (n : ℕ) → ((k : ℕ) → suc k < n → Keeps phase holder k) → ((k : ℕ) → k < n → Adds phase holder fall rise ticks k) → Begun n
+  unfolding callsBefore
+  begun-all zero on adds = λ q. below-none (ticks 0) first-ticks q ∙ sym (all-before 0 q refl)
+  begun-all (suc zero) on adds = begun-first (adds 0 (omega arith))
+  begun-all (suc (suc m)) on adds =
+      begun-next m (adds (suc m) (omega arith)) (on m (omega arith)) (λ l b. on l (omega (arith, b)) .onwards)
+      (begun-all (suc m) (λ k b. on k (omega (arith, b))) (λ k b. adds k (omega (arith, b))))
+
+  -- A phase runs from where it begins to where the next one does.
+  pub runs : (n : ℕ) → ((k : ℕ) → suc k < n → Keeps phase holder k) → ((k : ℕ) → k < n → Adds phase holder fall rise ticks k)
+      → (q : ℕ) → begins n q + ticks n q ≡ begins n (suc q)
+  unfolding below
+  runs n on adds q = let begun = begun-all n on adds in omega (arith, begun q, begun (suc q))
+
+-- A phase in which no call stood begins where the next one does.
+pub none-before : (phase : ℕ → ℕ) (n q : ℕ) → ((k : ℕ) → k < n → phase k ≡ q → ⊥) → callsBefore phase n (suc q) ≡ callsBefore phase n q
 unfolding callsBefore
 none-before phase zero q none = refl
-none-before phase (suc n) q none = decide (ltb (phase n) q) refl (none-before phase n q (λ k h. none k (omega (arith, h)))) where
-  decide : (b : Bool) → ltb (phase n) q ≡ b → callsBefore phase n (suc q) ≡ callsBefore phase n q
-      → callsBefore phase n (suc q) + when (ltb (phase n) (suc q)) 1 0 ≡ callsBefore phase n q + when (ltb (phase n) q) 1 0
-  decide true e rest =
+none-before phase (suc n) q none = decide (none-before phase n q (λ k h. none k (omega (arith, h)))) (ltb (phase n) q) refl where
+  decide : callsBefore phase n (suc q) ≡ callsBefore phase n q → (b : Bool) → ltb (phase n) q ≡ b
+      → callsBefore phase (suc n) (suc q) ≡ callsBefore phase (suc n) q
+  decide rest true e =
       let h = ltb-true (phase n) q e in
-      omega (arith, rest, when-true {A = ℕ} 1 0 e, when-true {A = ℕ} 1 0 (lt-ltb (phase n) (suc q) (omega (arith, h))))
-  decide false e rest =
+      omega (arith, rest, call-counts phase n q h, call-counts phase n (suc q) (omega (arith, h)))
+  decide rest false e =
       let h = ltb-false (phase n) q e in
       let other = none n (omega arith) in
-      omega (arith, rest, when-false {A = ℕ} 1 0 e, when-false {A = ℕ} 1 0 (le-ltb (phase n) (suc q) (omega (arith, h, other))))
-
--- Phases that are the same calls for calls.
-pub same-before : (f g : ℕ → ℕ) (q n : ℕ) → ((k : ℕ) → k < n → f k ≡ g k) → callsBefore f n q ≡ callsBefore g n q
-unfolding callsBefore
-same-before f g q zero e = refl
-same-before f g q (suc n) e =
-    ap₂ (λ (a b : ℕ). a + when (ltb b q) 1 0) (same-before f g q n (λ k h. e k (omega (arith, h)))) (e n (omega arith))
+      omega (arith, rest, call-passes phase n q h, call-passes phase n (suc q) (omega (arith, h, other)))

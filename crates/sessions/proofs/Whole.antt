@@ -65,7 +65,7 @@ module _ (t h p command : ℕ) (image : List ℕ) (lent : ℕ → List ℕ) (see
     }
 
     begun-sends : Sends given command (length image) lent seen begun
-    begun-sends = plays given load (length image) lent seen same-image begun at-start no-longer refl refl
+    begun-sends = plays given load (length image) lent seen same-image begun at-start no-longer refl
 
 pub every-session : EverySession
 every-session t h p command image x lent seen e same =

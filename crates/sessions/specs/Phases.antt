@@ -4,8 +4,8 @@ use Prim.Native.Nat.{ℕ, zero, suc, _+_}
 use lib.Dec.{ltb}
 use Rattle.terms.specs.Choice.{when}
 
--- How many of the calls before n stood in phases before q. Phases don't go back, so it is the number of the first call of phase q, or n where
--- none stood in it or in a later one yet.
+-- How many of the calls before n stood in phases before q. Phases don't go back, so it is the number of the first call that stood in phase q
+-- or in a later one, or n where none did yet.
 unfoldable pub callsBefore : (ℕ → ℕ) → ℕ → ℕ → ℕ
 callsBefore phase zero q = 0
 callsBefore phase (suc n) q = callsBefore phase n q + when (ltb (phase n) q) 1 0

@@ -30,7 +30,7 @@ ones marks = total (map (λ (m : Mark). when (m .bit) 1 0) marks)
 unfoldable pub zeros : List Mark → ℕ
 zeros marks = total (map (λ (m : Mark). when (m .bit) 0 1) marks)
 
--- What stands past the last pulse.
+-- What stands past the last pulse; it is in none of the ten phases.
 abbrev pub unsent : Mark
 unsent = record { bit = false; silent = false; phase = 10 }
 

@@ -7,7 +7,6 @@ use lib.ListN.{getD}
 use Rattle.terms.specs.Choice.{when}
 use Rattle.terms.specs.Refusals.{Answer, refused, taken, _given-when_, first}
 use Rattle.lent.specs.Bytes.{total}
-use Rattle.units.specs.declared.Ticks.{Ticks}
 use Rattle.place.specs.declared.Acknowledgement.{Acknowledgement}
 use Rattle.place.specs.declared.Acknowledgement.the-variants.{Ram, Programming, Verification}
 use Rattle.place.specs.declared.Phase.{Phase}
@@ -79,7 +78,7 @@ abbrev pub toldSpacer : Spacer → Answer ℕ
 toldSpacer Past = refused 13
 toldSpacer (Of ticks) = taken (ticks .0)
 
--- More ticks for the phase of a number, in 64 bits.
+-- More ticks for the phase of a number. A sum that does not fit keeps its lowest 64 bits.
 abbrev pub more : ℕ → ℕ → ℕ
 more x y = (x + y) % 2 ^ 64
 
@@ -97,7 +96,8 @@ added p n x = record {
   verification = when (eqb n 9) (record { 0 = more (p .verification .0) x }) (p .verification);
 }
 
--- Whose the spacer before a pulse is: where the pulse is the first of its phase, that of the phase before, which runs to this fall.
+-- Which phase has the spacer before a pulse: the pulse's own; but where the pulse is the first of its phase, the phase before, which runs to
+-- this fall.
 unfoldable pub holder : ℕ → ℕ → ℕ
 holder own index = when (eqb index 0) (own - 1) own
 
