@@ -1,6 +1,6 @@
-// Plans the image on standard input by the bench figures that it is given as arguments, T H P LOOP COMMAND, plays it to a chip whose EEPROM
-// has no fault, and prints what came of it: the lines of `planned`, the exact seconds and the margins; with a sixth argument 1 the ticks of
-// each phase and their sum instead; or the number of a refusal.
+// Plans the image on standard input by the bench figures that it is given as arguments, T H P LOOP COMMAND PHASES, plays it to a chip whose
+// EEPROM has no fault, and prints what came of it: where PHASES is 0 the lines of `planned`, the exact seconds and the margins, where it is 1
+// the ticks of each phase and their sum; or the number of a refusal.
 use eeprom::Fault;
 use figures::Figure;
 use joined::Ran;
@@ -18,6 +18,7 @@ fn main() {
     let p = argument(3);
     let l = argument(4);
     let command = argument(5);
+    let phases = argument(6);
     let Figure::Number(t) = t else {
         return usage();
     };
@@ -33,15 +34,13 @@ fn main() {
     let Figure::Number(command) = command else {
         return usage();
     };
-    plan(t, h, p, l, command, asks_phases());
-}
-
-// Whether the sixth argument is 1.
-fn asks_phases() -> bool {
-    match argument(6) {
-        Figure::Not => false,
-        Figure::Number(n) => n == 1,
+    let Figure::Number(phases) = phases else {
+        return usage();
+    };
+    if 1 < phases {
+        return usage();
     }
+    plan(t, h, p, l, command, phases == 1);
 }
 
 // An argument by its number. One that is missing, or too long for a figure, is none.
@@ -54,7 +53,7 @@ fn argument(i: usize) -> Figure {
 fn usage() {
     io::write_all(
         2,
-        b"plan: five numbers are wanted, T H P LOOP COMMAND, a 1 behind them for the phases, and an image on standard input\n",
+        b"plan: six numbers are wanted, T H P LOOP COMMAND PHASES, with PHASES 0 or 1, and an image on standard input\n",
     );
 }
 
