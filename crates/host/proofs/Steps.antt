@@ -7,9 +7,8 @@ use mathlib.Core.Path.{_≡_, sym, ap, _∙_}
 use Prim.Native.Nat.{ℕ, _+_, _-_, _≤_, _<_}
 use native.Mathlib.Nat.{div-le-self}
 use native.Mathlib.Omega.{arith}
-use lib.Dec.{ltb, eqb}
+use lib.Dec.{ltb}
 use borrow.Author.Tests.{ltb-false}
-use Rattle.terms.specs.Choice.{when}
 use Rattle.terms.specs.Refusals.{Row, Answer, refused, taken, _given-when_}
 use Rattle.terms.proofs.Refusals.{refused-exactly, refused-alike, taken-alike, taken-exactly}
 use Rattle.terms.proofs.Tests.{when-true, when-false, either-true, either-false}
@@ -20,7 +19,7 @@ use Rattle.session.proofs.Within.{pulses-most}
 use Rattle.place.specs.declared.Phase.{Phase}
 use Rattle.ticks.specs.Ticks.{phaseNumber, sum, ticksOf, restOf, spacerBefore, holder}
 use Rattle.ticks.specs.declared.PhaseTicks.{PhaseTicks}
-use Rattle.ticks.proofs.Sums.{Fits, phase-number, pulse-sum, pulse-ticks}
+use Rattle.ticks.proofs.Sums.{share, Fits, phase-number, pulse-sum, pulse-ticks}
 use Rattle.units.specs.declared.Seen.{Seen}
 use Rattle.units.specs.declared.Ticks.{Ticks}
 use Rattle.host.specs.Step.{late, timeOutside, fallOf, riseOf, hostOutside, timed, hostStep}
@@ -152,6 +151,6 @@ module _ (h : Host) (fine : hostOutside h ≡ false) where
 
       pub phases-each : (k : ℕ) → ticksOf (timed h p .host .phases) k
           ≡ ticksOf (h .phases) k
-          + when (eqb k (holder (phaseNumber phase) index)) (fallOf h - sum (h .phases)) 0
-          + when (eqb k (phaseNumber phase)) (riseOf h (p .bit) - fallOf h) 0
+          + share k (holder (phaseNumber phase) index) (fallOf h - sum (h .phases))
+          + share k (phaseNumber phase) (riseOf h (p .bit) - fallOf h)
       phases-each = pulse-ticks (h .phases) phase index (fallOf h - sum (h .phases)) (riseOf h (p .bit) - fallOf h) on fit-all

@@ -38,13 +38,13 @@ use Rattle.host.proofs.Legs.{tick-on}
 use Rattle.host.proofs.Steps.{fits, step-sent, step-refused, phases-sum, phases-each}
 use Rattle.ticks.specs.Ticks.{none, phaseNumber, ticksOf, sum, holder}
 use Rattle.ticks.specs.declared.PhaseTicks.{PhaseTicks}
-use Rattle.ticks.proofs.Sums.{holder-first, holder-own, none-ticks}
+use Rattle.ticks.proofs.Sums.{share, holder-first, holder-own, none-ticks}
 use Rattle.sessions.specs.Phases.{callsBefore, lastRise, stamp}
 use Rattle.sessions.specs.Sessions.{ones, zeros, unsent, session, many, pulse, edge, falls, rises, phaseAt, Sends}
 use Rattle.sessions.specs.Spelled.{Mark, Spelled}
 use Rattle.sessions.proofs.Edges.{edge-first, edge-on, rise-after, fall-after, ones-more, zeros-more}
 use Rattle.sessions.proofs.Moves.{Moves, stops, opens, stays, next-moves}
-use Rattle.sessions.proofs.Runs.{share, Adds, Keeps, runs, none-before}
+use Rattle.sessions.proofs.Runs.{Adds, Keeps, runs, none-before}
 use Rattle.sessions.proofs.Follows.{Follows, GoesOn, pulse-left, none-left}
 
 module _ (s : Settings) (load : Load) (size : ℕ) (lent : ℕ → List ℕ) (seen : ℕ → Seen)

@@ -6,16 +6,13 @@ use mathlib.Core.Path.{_≡_, refl, sym, ap, _∙_}
 use Prim.Native.Nat.{ℕ, zero, suc, _+_, _-_, _≤_, _<_}
 use native.Mathlib.Omega.{arith}
 use lib.Dec.{ltb, eqb}
-use borrow.Author.Tests.{ltb-true, ltb-false, eqb-true, eqb-false, lt-ltb, le-ltb, ne-eqb}
+use borrow.Author.Tests.{ltb-true, ltb-false, eqb-true, eqb-false, lt-ltb, le-ltb}
 use Rattle.terms.specs.Choice.{when}
 use Rattle.terms.proofs.Tests.{when-true, when-false, when-elim}
+use Rattle.ticks.proofs.Sums.{share, share-all, share-none}
 use Rattle.sessions.specs.Phases.{callsBefore, lastRise, stamp}
 
--- What phase q gets of ticks that are another's, or its own.
-abbrev pub share : ℕ → ℕ → ℕ → ℕ
-share q holder x = when (eqb q holder) x 0
-
--- What the phases before q get of them.
+-- What the phases before q get of ticks that one of them, or another, holds.
 abbrev portion : ℕ → ℕ → ℕ → ℕ
 portion q holder x = when (ltb holder q) x 0
 
@@ -31,16 +28,16 @@ portion-more q holder x = decide (ltb holder q) refl (eqb q holder) refl where
   decide : (b : Bool) → ltb holder q ≡ b → (d : Bool) → eqb q holder ≡ d → portion (suc q) holder x ≡ portion q holder x + share q holder x
   decide true e d f =
       let h = ltb-true holder q e in
-      let none : share q holder x ≡ 0 = when-false _ _ (ne-eqb q holder (λ z. omega (arith, h, z))) in
+      let none = share-none q holder x (λ z. omega (arith, h, z)) in
       omega (arith, none, portion-all q holder x h, portion-all (suc q) holder x (omega (arith, h)))
   decide false e true f =
       let h = eqb-true q holder f in
-      let all : share q holder x ≡ x = when-true _ _ f in
+      let all = share-all q holder x h in
       omega (arith, all, portion-none q holder x (omega (arith, h)), portion-all (suc q) holder x (omega (arith, h)))
   decide false e false f =
       let h = ltb-false holder q e in
       let other = eqb-false q holder f in
-      let none : share q holder x ≡ 0 = when-false _ _ f in
+      let none = share-none q holder x other in
       omega (arith, none, portion-none q holder x h, portion-none (suc q) holder x (omega (arith, h, other)))
 
 -- The ticks of the phases before q.
@@ -134,29 +131,16 @@ module _ (phase holder fall rise : ℕ → ℕ) (ticks : ℕ → ℕ → ℕ) (f
     nothing : portion q (holder 0) (fall 0 - lastRise rise 0) ≡ 0
     nothing = when-elim (λ (x : ℕ). x ≡ 0) (ltb (holder 0) q) (fall 0 - lastRise rise 0) 0 (λ e. omega (arith, first-fall)) (λ e. refl)
 
+    got : below (ticks 1) q ≡ portion q (phase 0) (rise 0 - fall 0)
+    got = omega (arith, after 0 adds q, below-none (ticks 0) first-ticks q, nothing)
+
     decide : (b : Bool) → ltb (phase 0) q ≡ b → below (ticks 1) q ≡ begins 1 q
     decide true e =
         let h = ltb-true (phase 0) q e in
-        omega (
-          arith,
-          after 0 adds q,
-          below-none (ticks 0) first-ticks q,
-          nothing,
-          portion-all q (phase 0) (rise 0 - fall 0) h,
-          first-fall,
-          all-before 1 q (call-counts phase 0 q h),
-        )
+        omega (arith, got, portion-all q (phase 0) (rise 0 - fall 0) h, first-fall, all-before 1 q (call-counts phase 0 q h))
     decide false e =
         let h = ltb-false (phase 0) q e in
-        omega (
-          arith,
-          after 0 adds q,
-          below-none (ticks 0) first-ticks q,
-          nothing,
-          portion-none q (phase 0) (rise 0 - fall 0) h,
-          first-fall,
-          first-of 1 0 q (call-passes phase 0 q h) (omega arith),
-        )
+        omega (arith, got, portion-none q (phase 0) (rise 0 - fall 0) h, first-fall, first-of 1 0 q (call-passes phase 0 q h) (omega arith))
 
   -- A call after call m.
   module _ (m : ℕ) (adds : Adds phase holder fall rise ticks (suc m)) (keeps : Keeps phase holder m)

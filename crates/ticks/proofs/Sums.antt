@@ -20,12 +20,11 @@ use Rattle.place.specs.declared.Phase.the-variants.{Calibration, Handshake, Con
 use Rattle.ticks.specs.Ticks.{none, waitNumber, phaseNumber, sum, ticksOf, restOf, less, more, added, holder, withPulse}
 use Rattle.ticks.specs.declared.PhaseTicks.{PhaseTicks}
 
-module _ (p : PhaseTicks) where
-  pub sum-is : sum p
-      ≡ p .calibration .0 + p .handshake .0 + p .connection .0 + p .version .0 + p .command .0 + p .size .0 + p .image .0 + p .ram .0
-      + p .programming .0 + p .verification .0
-  unfolding sum total
-  sum-is = omega arith
+pub sum-is : (p : PhaseTicks) → sum p
+    ≡ p .calibration .0 + p .handshake .0 + p .connection .0 + p .version .0 + p .command .0 + p .size .0 + p .image .0 + p .ram .0
+    + p .programming .0 + p .verification .0
+unfolding sum total
+sum-is p = omega arith
 
 -- Taking phases away one after the other is taking their sum away.
 rest-past : (away count : ℕ) → count < away → restOf away count ≡ refused 13
@@ -84,27 +83,35 @@ added-none p n x h0 h1 h2 h3 h4 h5 h6 h7 h8 h9 =
       ne-eqb n 9 h9,
     )
 
+-- What phase k gets of ticks that are for phase n.
+abbrev pub share : ℕ → ℕ → ℕ → ℕ
+share k n x = when (eqb k n) x 0
+
+module _ (k n x : ℕ) where
+  pub share-all : k ≡ n → share k n x ≡ x
+  share-all e = when-true _ _ (eq-eqb k n e)
+
+  pub share-none : (k ≡ n → ⊥) → share k n x ≡ 0
+  share-none e = when-false _ _ (ne-eqb k n e)
+
 -- One of the ten gets the ticks. Where their sum fits, so does each.
 abbrev pub Fits : ℕ → Type 0
 Fits x = x < 18446744073709551616
 
-field-more : (n k : ℕ) (t : Ticks) (x : ℕ) → Fits (t .0 + x) → when (eqb n k) (record { 0 = more (t .0) x }) t .0 ≡ t .0 + when (eqb k n) x 0
+field-more : (n k : ℕ) (t : Ticks) (x : ℕ) → Fits (t .0 + x) → when (eqb n k) (record { 0 = more (t .0) x }) t .0 ≡ t .0 + share k n x
 field-more n k t x h = decide (eqb n k) refl where
-  decide : (b : Bool) → eqb n k ≡ b → when (eqb n k) (record { 0 = more (t .0) x }) t .0 ≡ t .0 + when (eqb k n) x 0
+  decide : (b : Bool) → eqb n k ≡ b → when (eqb n k) (record { 0 = more (t .0) x }) t .0 ≡ t .0 + share k n x
   decide true e =
-      let same = eqb-true n k e in
       let left : when (eqb n k) (record { 0 = more (t .0) x }) t .0 ≡ t .0 + x =
       ap (λ (y : Ticks). y .0) (when-true _ _ e) ∙ mod-eq-of-lt h in
-      let right : when (eqb k n) x 0 ≡ x = when-true _ _ (eq-eqb k n (sym same)) in
-      omega (arith, left, right)
+      omega (arith, left, share-all k n x (sym (eqb-true n k e)))
   decide false e =
       let other = eqb-false n k e in
       let left : when (eqb n k) (record { 0 = more (t .0) x }) t .0 ≡ t .0 = ap (λ (y : Ticks). y .0) (when-false _ _ e) in
-      let right : when (eqb k n) x 0 ≡ 0 = when-false _ _ (ne-eqb k n (λ z. other (sym z))) in
-      omega (arith, left, right)
+      omega (arith, left, share-none k n x (λ z. other (sym z)))
 
 module _ (p : PhaseTicks) (x : ℕ) (fits : Fits (sum p + x)) where
-  pub added-ticks : (n k : ℕ) → n < 10 → ticksOf (added p n x) k ≡ ticksOf p k + when (eqb k n) x 0
+  pub added-ticks : (n k : ℕ) → n < 10 → ticksOf (added p n x) k ≡ ticksOf p k + share k n x
   unfolding added
   added-ticks n zero h = field-more n 0 (p .calibration) x (omega (arith, fits, sum-is p))
   added-ticks n (suc zero) h = field-more n 1 (p .handshake) x (omega (arith, fits, sum-is p))
@@ -117,14 +124,12 @@ module _ (p : PhaseTicks) (x : ℕ) (fits : Fits (sum p + x)) where
   added-ticks n (suc (suc (suc (suc (suc (suc (suc (suc zero)))))))) h = field-more n 8 (p .programming) x (omega (arith, fits, sum-is p))
   added-ticks n (suc (suc (suc (suc (suc (suc (suc (suc (suc zero))))))))) h = field-more n 9 (p .verification) x (omega (arith, fits, sum-is p))
   added-ticks n (suc (suc (suc (suc (suc (suc (suc (suc (suc (suc k)))))))))) h =
-      let none : when (eqb (suc (suc (suc (suc (suc (suc (suc (suc (suc (suc k)))))))))) n) x 0 ≡ 0 = when-false _ _ (ne-eqb (suc (suc (suc (suc (suc (suc (suc (suc (suc (suc k)))))))))) n (λ e. omega (arith, e, h))) in
-      omega (arith, none)
+      omega (arith, share-none (suc (suc (suc (suc (suc (suc (suc (suc (suc (suc k)))))))))) n x (λ e. omega (arith, e, h)))
 
 -- The shares of the ten in ticks for one of them.
 abbrev shares : ℕ → ℕ → ℕ
 shares n x =
-    when (eqb 0 n) x 0 + when (eqb 1 n) x 0 + when (eqb 2 n) x 0 + when (eqb 3 n) x 0 + when (eqb 4 n) x 0 + when (eqb 5 n) x 0
-    + when (eqb 6 n) x 0 + when (eqb 7 n) x 0 + when (eqb 8 n) x 0 + when (eqb 9 n) x 0
+    share 0 n x + share 1 n x + share 2 n x + share 3 n x + share 4 n x + share 5 n x + share 6 n x + share 7 n x + share 8 n x + share 9 n x
 
 one-share : (n x : ℕ) → n < 10 → shares n x ≡ x
 unfolding when
@@ -147,7 +152,7 @@ apart a0 a1 a2 a3 a4 a5 a6 a7 a8 a9 s0 s1 s2 s3 s4 s5 s6 s7 s8 s9 = omega arith
 
 added-sum : (p : PhaseTicks) (x : ℕ) → Fits (sum p + x) → (n : ℕ) → n < 10 → sum (added p n x) ≡ sum p + x
 added-sum p x fits n h =
-    let at : (k : ℕ) → ticksOf (added p n x) k ≡ ticksOf p k + when (eqb k n) x 0 = λ k. added-ticks p x fits n k h in
+    let at : (k : ℕ) → ticksOf (added p n x) k ≡ ticksOf p k + share k n x = λ k. added-ticks p x fits n k h in
     sum-is (added p n x) ∙ rw (at 0, at 1, at 2, at 3, at 4, at 5, at 6, at 7, at 8, at 9, apart, one-share n x h, sum-is p)
 
 -- A session that goes on is in one of the ten.
@@ -195,10 +200,10 @@ module _ (p : PhaseTicks) (phase : Phase) (index spacer low : ℕ) (on : phaseNu
   pulse-sum = added-sum held low (omega (arith, held-sum, fits)) own on ∙ ap (λ (x : ℕ). x + low) held-sum
 
   pub pulse-ticks : (k : ℕ) → ticksOf (withPulse p phase index spacer low) k
-      ≡ ticksOf p k + when (eqb k (holder own index)) spacer 0 + when (eqb k own) low 0
+      ≡ ticksOf p k + share k (holder own index) spacer + share k own low
   pulse-ticks k =
       added-ticks held low (omega (arith, held-sum, fits)) own k on
-      ∙ ap (λ (x : ℕ). x + when (eqb k own) low 0)
+      ∙ ap (λ (x : ℕ). x + share k own low)
       (added-ticks p spacer (omega (arith, fits)) (holder own index) k (holder-number own index on))
 
 -- Before the first pulse each is 0.
