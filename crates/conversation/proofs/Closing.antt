@@ -39,17 +39,17 @@ module _ (load : Load) (image : List ℕ) (c : Acknowledgement) (l : Listener) (
   abbrev pub waiting : host.Acknowledgement → Talk
   waiting a = talk (opened (Wait a)) (inPhase l (Align c)) ram eeprom Silence
 
-  abbrev answered : host.Acknowledgement → Talk
+  abbrev pub answered : host.Acknowledgement → Talk
   answered a =
       talk (record { phase = Wait a; index = 3 }) (inPhase l (Rest (Acknowledging c))) ram eeprom (shown (acknowledgedBit c))
 
-  aligns : (a : host.Acknowledgement) → Reach load image 3 (waiting a) (answered a)
+  pub aligns : (a : host.Acknowledgement) → Reach load image 3 (waiting a) (answered a)
   unfolding talked settled when both onward next aligned
   aligns Ram = computed load image 3 (waiting Ram) refl
   aligns Programming = computed load image 3 (waiting Programming) refl
   aligns Verification = computed load image 3 (waiting Verification) refl
 
-  good-shown : acknowledgedBit c ≡ false → shown (acknowledgedBit c) ≡ Zero
+  pub good-shown : acknowledgedBit c ≡ false → shown (acknowledgedBit c) ≡ Zero
   unfolding shown
   good-shown e = when-false _ _ e
 

@@ -71,7 +71,7 @@ module _ (image : List ℕ) (threshold : ℕ) (ram eeprom : List ℕ) where
       abbrev chip : Phase → Listener
       chip = listening threshold c size
 
-      loaded : 1 ≤ c → c ≤ 3
+      pub loaded : 1 ≤ c → c ≤ 3
           → Reach load image (830 + 8 * length image) (start threshold ram eeprom)
           (talk (opened (at.Wait Ram)) (chip (Align Stored)) (finalRam image) eeprom Silence)
       loaded least most =
@@ -89,23 +89,31 @@ module _ (image : List ℕ) (threshold : ℕ) (ram eeprom : List ℕ) where
           (command-and-size load image threshold ram eeprom least most (omega (arith, bytes, long)) (omega (arith, bytes, short)))
           (image-sent load image threshold size ram eeprom all bytes pulses good ram-long)))
 
-      programmed : 2 ≤ c → c ≤ 3
+      pub acknowledged : 2 ≤ c → c ≤ 3
+          → Reach load image (834 + 8 * length image) (start threshold ram eeprom)
+          (talk (opened (at.Wait Programming)) (chip (Align Programmed)) (finalRam image) (finalRam image) Silence)
+      unfolding afterRam stored
+      acknowledged least most =
+          let other : c ≡ 1 → ⊥ = omega (arith, least) in
+          let not-1 : eqb c 1 ≡ false = ne-eqb c 1 other in
+          let count : 830 + 8 * length image + 4 ≡ 834 + 8 * length image = omega arith in
+          counted count
+          (andThen (loaded (omega (arith, least)) most)
+          (acknowledgement load image Stored (chip (Align Stored)) (finalRam image) eeprom Ram (at.Wait Programming)
+          (chip (Align Programmed)) Program (finalRam image) (finalRam image) refl (when-false _ _ not-1) (when-false _ _ not-1)
+          (programs-well (finalRam image) eeprom (final-length image good) eeprom-long)))
+
+      pub programmed : 2 ≤ c → c ≤ 3
           → Reach load image (838 + 8 * length image) (start threshold ram eeprom)
           (talk (opened (at.Wait Verification)) (chip (Align Verified)) (finalRam image) (finalRam image) Silence)
       unfolding afterRam stored
       programmed least most =
-          let other : c ≡ 1 → ⊥ = omega (arith, least) in
-          let not-1 : eqb c 1 ≡ false = ne-eqb c 1 other in
-          let count : 830 + 8 * length image + (4 + 4) ≡ 838 + 8 * length image = omega arith in
+          let count : 834 + 8 * length image + 4 ≡ 838 + 8 * length image = omega arith in
           counted count
-          (andThen (loaded (omega (arith, least)) most)
-          (andThen
-          (acknowledgement load image Stored (chip (Align Stored)) (finalRam image) eeprom Ram (at.Wait Programming)
-          (chip (Align Programmed)) Program (finalRam image) (finalRam image) refl (when-false _ _ not-1) (when-false _ _ not-1)
-          (programs-well (finalRam image) eeprom (final-length image good) eeprom-long))
+          (andThen (acknowledged least most)
           (acknowledgement load image Programmed (chip (Align Programmed)) (finalRam image) (finalRam image) Programming
           (at.Wait Verification) (chip (Align Verified)) Verify (finalRam image) (finalRam image) refl refl refl
-          (verifies-well (finalRam image)))))
+          (verifies-well (finalRam image))))
 
     -- The verification ends the session, in a phase and with an event that go by the command.
     compared : (c : ℕ) (phase : Phase) (event : Event) → 2 ≤ c → c ≤ 3

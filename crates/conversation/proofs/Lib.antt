@@ -9,5 +9,6 @@ pub mod Opening
 pub mod Pulses
 pub mod Reaching
 pub mod Receiving
+pub mod Replies
 pub mod Sending
 pub mod Values

@@ -75,10 +75,10 @@ module _ (load : Load) (image : List ℕ) (threshold : ℕ) (ram eeprom : List �
   abbrev shaking : ℕ → Talk
   shaking i = talk (record { phase = at.Handshake; index = i }) (fresh (Handshake (i + 1))) ram eeprom Silence
 
-  abbrev connecting : ℕ → Talk
+  abbrev pub connecting : ℕ → Talk
   connecting k = talk (record { phase = at.Connection; index = k * 2 }) (fresh (Answer (Connection k))) ram eeprom Silence
 
-  abbrev replied : ℕ → Talk
+  abbrev pub replied : ℕ → Talk
   replied k = talk (record { phase = at.Connection; index = k * 2 + 1 }) (fresh (Rest (Connection k))) ram eeprom (shown (draw (251 + k)))
 
   shake : (i : ℕ) (place : Place) (phase : Phase) → onward load at.Handshake i ≡ place → afterDraw (i + 1) ≡ phase
@@ -90,14 +90,14 @@ module _ (load : Load) (image : List ℕ) (threshold : ℕ) (ram eeprom : List �
       (draw-matches (fresh (Handshake (i + 1))) (i + 1) ∙ ap (quiet (fresh (Handshake (i + 1)))) q)
       refl
 
-  handshake : Reach load image 250 (start threshold ram eeprom) (connecting 0)
+  pub handshake : Reach load image 250 (start threshold ram eeprom) (connecting 0)
   handshake =
       andThen
       (rounds 1 shaking 249
       (λ i h. shake i _ _ (onward-within load at.Handshake i (omega arith)) (after-draw (i + 1) (omega arith))))
       (shake 249 _ _ (onward-last load at.Handshake 249 (omega arith)) after-last-draw)
 
-  answer : (k : ℕ) → k < 250 → Reach load image 1 (connecting k) (replied k)
+  pub answer : (k : ℕ) → k < 250 → Reach load image 1 (connecting k) (replied k)
   answer k h =
       let even : k * 2 % 2 ≡ 0 = omega arith in
       let first : pairBit (k * 2) ≡ true = eq-eqb _ _ even in
@@ -119,7 +119,7 @@ module _ (load : Load) (image : List ℕ) (threshold : ℕ) (ram eeprom : List �
       (ap (quiet (fresh (Rest (Connection k)))) q)
       refl
 
-  pair : (k : ℕ) → k < 249 → Reach load image 2 (connecting k) (connecting (k + 1))
+  pub pair : (k : ℕ) → k < 249 → Reach load image 2 (connecting k) (connecting (k + 1))
   pair k h =
       let within : k * 2 + 1 + 1 < 500 = omega arith in
       let index : k * 2 + 1 + 1 ≡ (k + 1) * 2 = omega arith in
@@ -129,13 +129,13 @@ module _ (load : Load) (image : List ℕ) (threshold : ℕ) (ram eeprom : List �
       (after-reply k (omega arith)))
 
   -- Both before the version, and before the command.
-  abbrev versioning : Talk
+  abbrev pub versioning : Talk
   versioning = talk (opened (at.Version 0)) (fresh (Answer (Connection 250))) ram eeprom Silence
 
   abbrev pub commanding : Talk
   commanding = talk (opened at.Command) (fresh (Command 0 0)) ram eeprom Silence
 
-  connection : Reach load image 500 (connecting 0) versioning
+  pub connection : Reach load image 500 (connecting 0) versioning
   connection =
       andThen (rounds 2 connecting 249 pair)
       (andThen (answer 249 (omega arith))

@@ -10,10 +10,12 @@ use lib.Dec.{eqb}
 use lib.ListN.{length}
 use Rattle.terms.specs.Choice.{when}
 use Rattle.terms.proofs.Refusals.{taken-exactly}
+use Rattle.units.specs.declared.Seen.{Seen}
 use Rattle.load.specs.Load.{loadOf}
 use Rattle.load.specs.declared.Load.{Load}
 use Rattle.settings.specs.declared.Settings.{Settings}
 use Rattle.settings.proofs.Exactly.{Fit}
+use Rattle.bits.specs.Seeing.{sees}
 use Rattle.load.proofs.Facts.{Known}
 use Rattle.session.specs.Step as session
 use Rattle.host.specs.Step as hosts
@@ -23,9 +25,10 @@ use Rattle.eeprom.specs.declared.Fault.the-variants.{None}
 use Rattle.chip.specs.Step.{chipStart, startRows}
 use Rattle.chip.specs.Step as chips
 use Rattle.chip.specs.declared.Chip.{Chip}
-use Rattle.conversation.specs.Conversation.{Talk, Success}
+use Rattle.conversation.specs.Conversation.{Talk, Reach, start, Success}
 use Rattle.conversation.specs.Final.{pulsesAfter}
 use Rattle.conversation.proofs.Conversations.{success}
+use Rattle.conversation.proofs.Replies.{Told, Replies, replies}
 use Rattle.joined.specs.Ends.{after}
 use Rattle.joined.specs.Joined.{State, Measuring, begun}
 use Rattle.joined.proofs.Budget.{start-sound}
@@ -37,6 +40,10 @@ use Rattle.success.proofs.Clock.{Clocked, clock}
 use Rattle.success.proofs.Countdown.{Paced, paced-fresh}
 use Rattle.success.proofs.Simulation.{Meets, talkOf}
 use Rattle.success.proofs.Timing.{Low, read-right}
+
+-- What the host is told by its next call.
+abbrev told : State → Seen
+told s = sees (s .host .session .place .phase) (s .host .session .place .index) (s .reply)
 
 -- Calibration and conversation together.
 counts : (a b : Bool) (n : ℕ)
@@ -101,18 +108,30 @@ module _ (t h p command : ℕ) (image : List ℕ) (host : Host) (ram eeprom : Li
   abbrev finish : (threshold : ℕ) → Success command image threshold ram eeprom
   finish threshold = success command image threshold ram eeprom (opened .2) (λ n. a .bytes) (sound .ram-size) (sound .eeprom-size)
 
-  run : Calibrated measured image load (Low t p l (a .margin)) (Clocked t h p l (opened .1) (a .loop) (a .margin) measured (a .may))
-      (clock t h p l (opened .1) (a .loop) (a .margin) measured (a .may) image load) (read-right t p l (a .margin))
-      (pulsesAfter command (length image)) s (λ threshold. finish threshold .end)
-  run =
+  -- Where so many pulses of the conversation lead, the run stands after as many and the calibration's two.
+  leads : (n : ℕ) (end : ℕ → Talk) → ((threshold : ℕ) → Reach load image n (start threshold ram eeprom) (end threshold))
+      → Calibrated measured image load (Low t p l (a .margin)) (Clocked t h p l (opened .1) (a .loop) (a .margin) measured (a .may))
+      (clock t h p l (opened .1) (a .loop) (a .margin) measured (a .may) image load) (read-right t p l (a .margin)) n s end
+  leads =
       calibrates measured image load (Low t p l (a .margin)) (Clocked t h p l (opened .1) (a .loop) (a .margin) measured (a .may))
       (clock t h p l (opened .1) (a .loop) (a .margin) measured (a .may) image load) (read-right t p l (a .margin)) s ram eeprom meets
-      clocked talks (pulsesAfter command (length image)) (λ threshold. finish threshold .end) (λ threshold. finish threshold .reached)
+      clocked talks
+
+  -- What the host is told there.
+  pub told-so : (k : ℕ) (wanted : Seen) → ((threshold : ℕ) → Told load image threshold ram eeprom k wanted)
+      → told (after measured image (k + 1 + 1) s) ≡ wanted
+  told-so k wanted t =
+      let there = leads k (λ threshold. t threshold .at) (λ threshold. t threshold .reached) in
+      ap (λ (x : Talk). sees (x .place .phase) (x .place .index) (x .reply)) (there .runs .ends) ∙ t (there .threshold) .told
+
+  pub replied : (threshold : ℕ) → Replies command image threshold ram eeprom
+  replied threshold = replies command image threshold ram eeprom (opened .2) (a .bytes) (sound .ram-size) (sound .eeprom-size)
 
   succeeds : Succeeds command image measured s
   succeeds =
       let n = pulsesAfter command (length image) + 1 + 1 in
       let all = pulses-all command (length image) in
+      let run = leads (pulsesAfter command (length image)) (λ threshold. finish threshold .end) (λ threshold. finish threshold .reached) in
       let last = finish (run .threshold) in
       let ends : talkOf (after measured image (pulses command (length image)) s) ≡ last .end =
       ap (λ (k : ℕ). talkOf (after measured image k s)) (sym all) ∙ run .runs .ends in
