@@ -1,0 +1,2 @@
+pub mod Inside
+pub mod Times
