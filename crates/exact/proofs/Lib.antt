@@ -1,0 +1,9 @@
+pub mod Accepting
+pub mod Counting
+pub mod Edges
+pub mod Exactly
+pub mod Lasts
+pub mod Lists
+pub mod Planned
+pub mod Runs
+pub mod Safely

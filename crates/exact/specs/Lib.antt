@@ -1,0 +1,5 @@
+pub mod Accepts
+pub mod Exact
+pub mod Good
+pub mod Runs
+pub mod Safe

@@ -1,0 +1,1 @@
+// The batch report's closed form is the session: statements and proofs alone.
