@@ -11,6 +11,7 @@ use std::io::{Read, Write};
 enum Packing {
     One,
     Three,
+    Fewest,
 }
 
 #[derive(Clone, Copy)]
@@ -24,6 +25,10 @@ const CALLS: usize = 263_379;
 
 fn in_pairs(phase: Phase) -> bool {
     matches!(phase, Phase::Calibration | Phase::Connection | Phase::Version(_) | Phase::Wait(_))
+}
+
+fn in_bits(phase: Phase) -> bool {
+    matches!(phase, Phase::Handshake | Phase::Command | Phase::Zeros | Phase::Size | Phase::Image)
 }
 
 impl Serial {
@@ -63,19 +68,19 @@ impl Serial {
         let most = match self.packing {
             Packing::One => 1,
             Packing::Three => 3,
+            Packing::Fewest => 5,
         };
         let mut lows = 0u16;
         let mut used = 0;
         for _ in 0..most {
-            if self.place.bit(planner, &self.load, image) {
-                lows |= 1 << used;
-                used += 2;
-            } else {
-                lows |= 3 << used;
-                used += 3;
+            let (low, width) = if self.place.bit(planner, &self.load, image) { (1, 2) } else { (3, 3) };
+            if used + width > 10 {
+                break;
             }
+            lows |= low << used;
+            used += width;
             self.place.follow(planner, &self.load, Seen::Silence);
-            if self.place.index == 0 {
+            if self.place.index == 0 && !(matches!(self.packing, Packing::Fewest) && in_bits(self.place.phase)) {
                 break;
             }
         }
@@ -114,7 +119,8 @@ fn main() {
     let packing = match std::env::args().nth(2).as_deref() {
         Some("1") => Packing::One,
         Some("3") => Packing::Three,
-        _ => panic!("two numbers are wanted, 1 and BITS (1 or 3), and an image on standard input"),
+        Some("5") => Packing::Fewest,
+        _ => panic!("two numbers are wanted, 1 and BITS (1, 3 or 5), and an image on standard input"),
     };
     let mut image = Vec::new();
     std::io::stdin().take(32_761).read_to_end(&mut image).expect("an image on standard input");

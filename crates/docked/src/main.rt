@@ -1,11 +1,11 @@
 // Sends the image on standard input as serial bytes to a chip that answers by the rules. Arguments: COMMAND BITS. With BITS 0 it prints a line
-// for each packing, with 1 or 3 it writes the bytes themselves by so many bits a byte; or the number of a refusal. bench/serial.rs is the
-// same program in Rust.
+// for each packing, with 1, 3 or 5 it writes the bytes themselves by the packing that holds so many bits a byte at most; or the number of a
+// refusal. bench/serial.rs is the same program in Rust.
 use figures::Figure;
+use packing::Packing;
 use place::HostEnd;
 use place::Phase;
 use place::Place;
-use serial::Packing;
 use serial::Serial;
 use serial::Started;
 use serial::Stepped;
@@ -59,7 +59,7 @@ fn argument(i: usize) -> Figure {
 fn usage() {
     io::write_all(
         2,
-        b"docked: two numbers are wanted, COMMAND and BITS (0, 1 or 3), and an image on standard input\n",
+        b"docked: two numbers are wanted, COMMAND and BITS (0, 1, 3 or 5), and an image on standard input\n",
     );
 }
 
@@ -68,6 +68,7 @@ fn dock(command: u32, bits: u32, image: &[u8]) {
         0 => print_lines(command, image),
         1 => write_bytes(Packing::One, command, image),
         3 => write_bytes(Packing::Three, command, image),
+        5 => write_bytes(Packing::Fewest, command, image),
         _ => usage(),
     }
 }
@@ -98,6 +99,10 @@ fn print_lines(command: u32, image: &[u8]) {
     match Serial::start(Packing::Three, command, image) {
         Started::Refused(_) => {}
         Started::Taken(serial) => print_line(b"packing three", serial, image),
+    }
+    match Serial::start(Packing::Fewest, command, image) {
+        Started::Refused(_) => {}
+        Started::Taken(serial) => print_line(b"packing fewest", serial, image),
     }
 }
 

@@ -2,12 +2,12 @@
 -- Assumes nothing.
 use mathlib.Core.Bool.{Bool, true, false, false≢true}
 use mathlib.Core.List.{List, [], _∷_, _++_, map, append-nil, append-assoc}
-use mathlib.Core.Path.{_≡_, refl, sym, ap₂, _∙_, subst}
+use mathlib.Core.Path.{_≡_, refl, sym, ap, ap₂, _∙_, subst}
 use Prim.Native.Nat.{ℕ, zero, suc, _+_, _*_, _≤_}
 use native.Mathlib.Omega.{arith}
 use lib.Dec.{eqb, leb}
 use lib.ListN.{length}
-use borrow.Author.Tests.{eqb-true, le-leb}
+use borrow.Author.Tests.{eqb-true, leb-true, le-leb}
 use Rattle.terms.specs.Choice.{when, both}
 use Rattle.terms.proofs.Tests.{both-true, when-true}
 use Rattle.frames.specs.Frames.{width, empty, fits, with, byteOf}
@@ -19,12 +19,22 @@ unfoldable pub laid : Frame → List Bool → Frame
 laid f [] = f
 laid f (b ∷ bits) = laid (with f b) bits
 
+-- A bit that fits is within ten bit times, and uses its own.
+module _ (f : Frame) (b : Bool) (e : fits f b ≡ true) where
+  pub fits-room : f .used + width b ≤ 10
+  unfolding fits
+  fits-room = leb-true (f .used + width b) 10 e
+
+  pub with-used : with f b .used ≡ f .used + width b
+  unfolding with
+  with-used = ap (λ (x : Frame). x .used) (when-true _ _ e)
+
 -- The bit times that some bits use.
 unfoldable pub widths : List Bool → ℕ
 widths [] = 0
 widths (b ∷ bits) = width b + widths bits
 
--- The bytes that 02 names: a pair, a 0 and a 1 by one bit a byte.
+-- The bytes that 02 names: a pair, a 0 and a 1 by one bit a byte, five ones.
 pair-byte : byteOf (laid empty (true ∷ false ∷ []) .lows) ≡ 0xF9
 unfolding laid with fits when
 pair-byte = refl
@@ -36,6 +46,10 @@ zero-byte = refl
 one-byte : byteOf (laid empty (true ∷ []) .lows) ≡ 0xFF
 unfolding laid with fits when
 one-byte = refl
+
+five-byte : byteOf (laid empty (true ∷ true ∷ true ∷ true ∷ true ∷ []) .lows) ≡ 0x55
+unfolding laid with fits when
+five-byte = refl
 
 unfoldable same : List ℕ → List ℕ → Bool
 same [] [] = true
@@ -83,7 +97,7 @@ tested-good (suc n) bits (b ∷ rest) h e =
     subst (λ (l : List Bool). good l ≡ true) (append-assoc bits (b ∷ []) rest)
     (tested-good n (bits ++ (b ∷ [])) rest (omega (arith, h)) (one-more n bits b e))
 
-two-each : (bits : List Bool) → 2 * length bits ≤ widths bits
+pub two-each : (bits : List Bool) → 2 * length bits ≤ widths bits
 unfolding widths
 two-each [] = omega arith
 two-each (true ∷ bits) = omega (arith, two-each bits)

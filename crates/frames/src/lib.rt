@@ -42,13 +42,18 @@ impl Frame {
     }
 }
 
+// The bit times of a 1 and of a 0: its low run, and the high one after it.
+const ONE_WIDTH: u8 = 2;
+
+const ZERO_WIDTH: u8 = 3;
+
 fn width(bit: bool) -> u8
     ensures { λ r. ⌜ r ≡ width bit ⌝ }
 {
     if bit {
-        return 2;
+        return ONE_WIDTH;
     }
-    3
+    ZERO_WIDTH
 }
 
 fn lows_of(bit: bool) -> u16

@@ -22,7 +22,7 @@ use Rattle.host.specs.Reached as host-reached
 use Rattle.serial.specs.Step.{serialStart, serialRows, serialStep}
 use Rattle.serial.specs.Reached as serial-reached
 use Rattle.serial.specs.declared.Wire.{Wire}
-use Rattle.serial.specs.declared.Packing.{Packing}
+use Rattle.packing.specs.declared.Packing.{Packing}
 use Rattle.serial.specs.declared.Serial.{Serial}
 use Rattle.eeprom.specs.declared.Fault.{Fault}
 use Rattle.phases.specs.Phases as phases

@@ -2,12 +2,12 @@
 use crate::print::number;
 use crate::print::say;
 use load::Load;
+use packing::Packing;
 use place::Acknowledgement;
 use place::Ending;
 use place::HostEnd;
 use place::Phase;
 use place::Place;
-use serial::Packing;
 use serial::Serial;
 use serial::Stepped;
 use serial::Wire;
@@ -17,6 +17,7 @@ pub(crate) fn all() {
     looked_at();
     ignored();
     runs();
+    fewest();
     refusals();
 }
 
@@ -75,10 +76,31 @@ fn runs() {
     after(b"image, 1 left", Phase::Image, 127, Wire::Nothing);
 }
 
+// By the fewest bytes a byte takes what fits, from the command on to the image's end.
+fn fewest() {
+    say(b"the fewest bytes\n");
+    filled(b"handshake", Phase::Handshake, 0);
+    filled(b"handshake, 2 left", Phase::Handshake, 248);
+    filled(b"command, 2 left", Phase::Command, 30);
+    filled(b"size, 1 left", Phase::Size, 31);
+    filled(b"zeros, 2 left", Phase::Zeros, 30);
+    // Five ones, then four and a 0 for which there is no room.
+    filled(b"image, five ones", Phase::Image, 64);
+    filled(b"image, four ones", Phase::Image, 68);
+    filled(b"image, 2 left", Phase::Image, 126);
+}
+
+fn filled(name: &[u8], phase: Phase, index: u32) {
+    say(name);
+    say(b":");
+    call(Packing::Fewest, 2, 16, phase, index, 16, Wire::Nothing);
+}
+
+// By three bits a byte.
 fn after(name: &[u8], phase: Phase, index: u32, back: Wire) {
     say(name);
     came(back);
-    call(2, 16, phase, index, 16, back);
+    call(Packing::Three, 2, 16, phase, index, 16, back);
 }
 
 fn came(back: Wire) {
@@ -94,27 +116,40 @@ fn came(back: Wire) {
 fn refusals() {
     say(b"refusals in their order\n");
     say(b"13 before 14:");
-    call(1, 15, Phase::Ended(Ending::Done), 0, 15, Wire::Byte(0xfd));
+    refused(1, 15, Phase::Ended(Ending::Done), 0, Wire::Byte(0xfd));
     say(b"14:");
-    call(1, 16, Phase::Ended(Ending::Done), 0, 15, Wire::Byte(0xfd));
+    refused(1, 16, Phase::Ended(Ending::Done), 0, Wire::Byte(0xfd));
     say(b"15 before 5:");
-    call(1, 16, Phase::Connection, 1, 15, Wire::Byte(0xfd));
+    refused(1, 16, Phase::Connection, 1, Wire::Byte(0xfd));
     say(b"5:");
-    call(1, 16, Phase::Connection, 1, 15, Wire::Byte(0xfe));
+    refused(1, 16, Phase::Connection, 1, Wire::Byte(0xfe));
     say(b"5 in the handshake:");
-    call(1, 16, Phase::Handshake, 3, 15, Wire::Byte(0xfd));
+    refused(1, 16, Phase::Handshake, 3, Wire::Byte(0xfd));
     say(b"never for command 0:");
-    call(0, 0, Phase::Handshake, 3, 15, Wire::Byte(0xfd));
+    refused(0, 0, Phase::Handshake, 3, Wire::Byte(0xfd));
 }
 
-// Its last two bits are 1, 0.
-const IMAGE: [u8; 16] = [0, 0, 0, 0, 0, 0, 0, 0, 0, 0, 0, 0, 0, 0, 0, 0x40];
+// Lent 15 bytes.
+fn refused(command: u32, length: usize, phase: Phase, index: u32, back: Wire) {
+    call(Packing::Three, command, length, phase, index, 15, back);
+}
 
-// A call of three bits a byte, lent the first bytes of the image.
-fn call(command: u32, length: usize, phase: Phase, index: u32, lent: usize, back: Wire) {
+// Bits 64 to 71 are ones; its last two bits are 1, 0.
+const IMAGE: [u8; 16] = [0, 0, 0, 0, 0, 0, 0, 0, 0xff, 0, 0, 0, 0, 0, 0, 0x40];
+
+// A call, lent the first bytes of the image.
+fn call(
+    packing: Packing,
+    command: u32,
+    length: usize,
+    phase: Phase,
+    index: u32,
+    lent: usize,
+    back: Wire,
+) {
     let image = IMAGE;
     let serial = Serial {
-        packing: Packing::Three,
+        packing,
         load: Load {
             command,
             length: Bytes(length),

@@ -1,11 +1,11 @@
 // Whole sessions, by each packing, with a chip that answers as it is told to.
 use crate::print::number;
 use crate::print::say;
+use packing::Packing;
 use place::Acknowledgement;
 use place::HostEnd;
 use place::Phase;
 use place::Place;
-use serial::Packing;
 use serial::Serial;
 use serial::Started;
 use serial::Stepped;
@@ -48,20 +48,20 @@ pub(crate) fn all(image: &[u8]) {
 
 fn good(image: &[u8]) {
     say(b"all good\n");
-    both(1, image, GOOD);
-    both(3, image, GOOD);
+    each(1, image, GOOD);
+    each(3, image, GOOD);
     say(b"command 0\n");
-    both(0, image, GOOD);
+    each(0, image, GOOD);
     say(b"refused\n");
-    both(4, image, GOOD);
-    both(1, b"", GOOD);
+    each(4, image, GOOD);
+    each(1, b"", GOOD);
 }
 
 fn connections(image: &[u8]) {
     say(b"silence at the first connection pair\n");
     let mut chip = GOOD;
     chip.connects = false;
-    both(1, image, chip);
+    each(1, image, chip);
     say(b"version 0, 2, 129\n");
     version(0, image);
     version(2, image);
@@ -71,7 +71,7 @@ fn connections(image: &[u8]) {
 fn version(version: u32, image: &[u8]) {
     let mut chip = GOOD;
     chip.version = version;
-    both(1, image, chip);
+    each(1, image, chip);
 }
 
 fn acknowledgements(image: &[u8]) {
@@ -84,7 +84,7 @@ fn acknowledgements(image: &[u8]) {
 fn bad(wait: u32, image: &[u8]) {
     let mut chip = GOOD;
     chip.bad = wait;
-    both(3, image, chip);
+    each(3, image, chip);
 }
 
 fn silences(image: &[u8]) {
@@ -104,16 +104,19 @@ fn answers(ram: u32, programming: u32, verification: u32, image: &[u8]) {
     chip.ram = ram;
     chip.programming = programming;
     chip.verification = verification;
-    both(3, image, chip);
+    each(3, image, chip);
 }
 
-fn both(command: u32, image: &[u8], chip: Chip) {
+fn each(command: u32, image: &[u8], chip: Chip) {
     number(b"command ", command as u64);
     say(b", one:");
     begin(Packing::One, command, image, chip);
     number(b"command ", command as u64);
     say(b", three:");
     begin(Packing::Three, command, image, chip);
+    number(b"command ", command as u64);
+    say(b", fewest:");
+    begin(Packing::Fewest, command, image, chip);
 }
 
 fn begin(packing: Packing, command: u32, image: &[u8], chip: Chip) {

@@ -1,9 +1,9 @@
 -- A start hands out a record within its ranges, and each step keeps it there.
 -- Assumes nothing.
-use mathlib.Core.Bool.{Bool, true, false, false≢true}
+use mathlib.Core.Bool.{Bool, true, false}
 use mathlib.Core.List.{List}
 use mathlib.Core.Path.{_≡_, sym, subst}
-use Prim.Native.Nat.{ℕ, zero, suc, _≤_}
+use Prim.Native.Nat.{ℕ, _≤_}
 use native.Mathlib.Omega.{arith}
 use borrow.Author.Tests.{leb-false, lt-leb}
 use Rattle.terms.specs.Refusals.{taken}
@@ -14,24 +14,25 @@ use Rattle.load.specs.declared.Load.{Load}
 use Rattle.load.proofs.Exactly.{load-taken}
 use Rattle.load.proofs.Within.{load-within, start-within}
 use Rattle.units.specs.declared.Seen.{Seen}
-use Rattle.bits.specs.Bits.{sentBit}
 use Rattle.follow.specs.Follow.{onward, next}
 use Rattle.follow.proofs.Stands.{Stands, opened-stands, onward-stands, next-stands}
 use Rattle.place.specs.Phases.{ended}
 use Rattle.range.specs.Ranges.{placeOutside}
 use Rattle.place.specs.declared.Phase.the-variants.{Calibration}
 use Rattle.place.specs.declared.Place.{Place}
-use Rattle.frames.specs.Frames.{fits, with}
-use Rattle.serial.specs.Phases.{inPairs, pending}
-use Rattle.serial.specs.Filling.{atFirst, joined, tried, more, filledTo, filled, most, paired, sentAt}
+use Rattle.serial.specs.Phases.{pending}
+use Rattle.packing.specs.Phases.{inPairs}
+use Rattle.packing.specs.Filling.{paired, sentAt}
 use Rattle.serial.specs.Replies.{came, resumed}
 use Rattle.serial.specs.Step.{serialStart, serialOutside, serialRows, resumedAt, turnAt, turnOf, serialStep}
-use Rattle.serial.specs.declared.Filling.{Filling}
+use Rattle.packing.specs.declared.Filling.{Filling}
 use Rattle.serial.specs.declared.Wire.{Wire}
-use Rattle.serial.specs.declared.Packing.{Packing}
+use Rattle.packing.specs.declared.Packing.{Packing}
 use Rattle.serial.specs.declared.Serial.{Serial}
 use Rattle.serial.specs.declared.Turn.{Turn}
-use Rattle.serial.proofs.Places.{Plain, run-leads}
+use Rattle.packing.proofs.Full.{filled-byte}
+use Rattle.packing.proofs.Phases.{plain, in-bits}
+use Rattle.packing.proofs.Walks.{Walks, stays, walks}
 use Rattle.serial.proofs.Starts.{start-load}
 
 -- The load and the place are within their ranges. Pulses are not counted here.
@@ -73,36 +74,18 @@ module _ (load : Load) (loaded : loadOutside load ≡ false) where
   resumed-in p s on w = when-elim In (pending (p .phase) (p .index)) _ _ (λ b. next-in p s on w) (λ b. w)
 
   module _ (packing : Packing) (image : List ℕ) where
-    -- A byte that is filled from a place within.
-    record Fills (f : Filling) : Type 0 where
-      stands : In (f .place)
-      plain : f .going ≡ true → Plain (f .place .phase)
-
-    joins : (f : Filling) (b : Bool) → Plain (f .place .phase) → Fills f
-        → Fills (joined packing (with (f .frame) b) (onward load (f .place .phase) (f .place .index)))
-    joins f b plain x = record {
-      stands = onward-in (f .place) (plain .on) (x .stands);
-      plain = run-leads load (f .place .phase) (f .place .index) plain packing .0;
-    }
-
-    more-in : (f : Filling) → Fills f → Fills (more packing load image f)
-    unfolding more tried
-    more-in f x =
-        when-elim Fills (f .going) _ _
-        (λ on. when-elim Fills (fits (f .frame) (sentBit load image (f .place .phase) (f .place .index))) _ _
-        (λ e. joins f _ (x .plain on) x) (λ e. record { stands = x .stands; plain = λ q. absurd (false≢true q) }))
-        (λ off. x)
-
-    to-in : (p : Place) → Plain (p .phase) → In p → (n : ℕ) → Fills (filledTo packing load image n (atFirst p))
-    unfolding filledTo
-    to-in p plain w zero = record { stands = w; plain = λ e. plain }
-    to-in p plain w (suc n) = more-in _ (to-in p plain w n)
+    -- The bits of a byte lead within.
+    walks-in : (p q : Place) (bits : List Bool) → Walks load image p bits q → In p → In q
+    walks-in p _ _ (stays _) w = w
+    walks-in p q _ (walks _ bits _ on way) w = walks-in _ q bits way (onward-in p (plain (p .phase) on .on) w)
 
     sent-in : (p : Place) → ended (p .phase) ≡ false → In p → In (sentAt packing load image (p .phase) (p .index) .place)
-    unfolding sentAt paired filled
+    unfolding sentAt paired
     sent-in p on w =
         when-elim (λ (f : Filling). In (f .place)) (inPairs (p .phase)) _ _ (λ b. onward-in p on w)
-        (λ b. to-in p (record { bits = b; on = on }) w (most packing) .stands)
+        (λ b.
+        let x = filled-byte packing load image p (in-bits (p .phase) (record { bits = b; on = on })) in
+        walks-in p _ (x .bits) (x .way) w)
 
 -- A turn, from where its byte is filled.
 turn-in : (s : Serial) (image : List ℕ) (p : Place) → loadOutside (s .load) ≡ false → Stands (s .load) 0 p

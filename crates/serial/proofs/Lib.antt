@@ -1,4 +1,3 @@
-pub mod Fills
 pub mod Kept
 pub mod Places
 pub mod Reached

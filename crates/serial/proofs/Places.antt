@@ -20,11 +20,11 @@ use Rattle.place.specs.declared.Acknowledgement.the-variants.{Ram, Programming,
 use Rattle.place.specs.declared.Phase.{Phase}
 use Rattle.place.specs.declared.Phase.the-variants.{Calibration, Handshake, Connection, Version, Command, Zeros, Size, Image, Wait, Ended}
 use Rattle.place.specs.declared.Place.{Place}
-use Rattle.serial.specs.Phases.{inPairs, pending}
-use Rattle.serial.specs.Filling.{goesOn}
+use Rattle.packing.specs.Phases.{inPairs}
+use Rattle.packing.proofs.Phases.{plain, onward-elim}
+use Rattle.packing.proofs.Walks.{Walks, stays, walks}
+use Rattle.serial.specs.Phases.{pending}
 use Rattle.serial.specs.Replies.{resumed}
-use Rattle.serial.specs.declared.Packing.{Packing}
-use Rattle.serial.specs.declared.Packing.the-variants as packing
 
 -- No pair is on the wire.
 abbrev pub Settled : Place → Type 0
@@ -88,12 +88,6 @@ module _ (load : Load) where
   unfolding next
   first-onward phase i s e = when-true _ _ e
 
-  -- The next place of a phase, or another phase's first.
-  pub onward-elim : (P : Place → Type 0) (phase : Phase) (i : ℕ) → P (record { phase = phase; index = i + 1 })
-      → ((to : Phase) → P (opened to)) → P (onward load phase i)
-  unfolding onward
-  onward-elim P phase i here there = when-elim P _ _ _ (λ b. here) (λ b. there (after load phase))
-
   -- Past a pair's second pulse no pair is on the wire.
   abbrev Even : Place → Type 0
   Even p = pairBit (p .index) ≡ true
@@ -103,7 +97,7 @@ module _ (load : Load) where
     opened-even to = refl
 
     onward-even : (phase : Phase) → Even (onward load phase i)
-    onward-even phase = onward-elim Even phase i (after-second i odd) opened-even
+    onward-even phase = onward-elim load Even phase i (after-second i odd) opened-even
 
     version-even : (v : ℕ) (s : Seen) → Even (afterVersionPair load v i s)
     version-even v Silence = refl
@@ -186,24 +180,13 @@ module _ (load : Load) where
   pair-bits image (Wait a) i p = refl
   pair-bits image (Ended x) i p = absurd (false≢true p)
 
--- A phase of bits that goes on.
-pub record Plain (phase : Phase) : Type 0 where
-  pub bits : inPairs phase ≡ false
-  pub on : ended phase ≡ false
-
--- Where a bit of a run leads: a byte goes on in the run's own phase, or no pair is on the wire.
-module _ (load : Load) (phase : Phase) (i : ℕ) (plain : Plain phase) where
-  abbrev Leads : (Place → Bool) → Place → Type 0
-  Leads goes to = (goes to ≡ true → Plain (to .phase)) × Settled to
-
-  leads : (goes : Place → Bool) → ((to : Phase) → goes (opened to) ≡ true → Plain to) → Leads goes (onward load phase i)
-  leads goes over =
-      onward-elim load (Leads goes) phase i ((λ e. plain), bits-settled phase (i + 1) (plain .bits))
-      (λ to. (over to, first-settled to 0 refl))
-
-  pub run-leads : (p : Packing) → Leads (goesOn p) (onward load phase i)
-  run-leads packing.One = leads (goesOn packing.One) (λ to e. absurd (false≢true e))
-  run-leads packing.Three = leads (goesOn packing.Three) (λ to e. absurd (false≢true e))
+-- Bits of a run lead to a place at which no pair is on the wire.
+module _ (load : Load) (image : List ℕ) where
+  pub walks-settled : (p q : Place) (bits : List Bool) → Walks load image p bits q → Settled p → Settled q
+  walks-settled p _ _ (stays _) s = s
+  walks-settled p q _ (walks _ bits _ on way) s =
+      walks-settled _ q bits way
+      (onward-elim load Settled (p .phase) (p .index) (bits-settled (p .phase) (p .index + 1) (plain (p .phase) on .bits)) (λ to. first-settled to 0 refl))
 
 -- An ended session sends no pairs.
 pub pairs-going : (phase : Phase) → inPairs phase ≡ true → ended phase ≡ false

@@ -10,7 +10,7 @@ use Rattle.load.specs.declared.Accepted.{Accepted}
 use Rattle.load.specs.declared.Accepted.the-variants.{Refused, Taken}
 use Rattle.load.specs.declared.Load.{Load}
 use Rattle.serial.specs.Step.{fresh, serialStart}
-use Rattle.serial.specs.declared.Packing.{Packing}
+use Rattle.packing.specs.declared.Packing.{Packing}
 use Rattle.serial.specs.declared.Serial.{Serial}
 
 module _ (packing : Packing) (command : ℕ) (image : List ℕ) where

@@ -1,4 +1,3 @@
-pub mod Filling
 pub mod Phases
 pub mod Reached
 pub mod Replies

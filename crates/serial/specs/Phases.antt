@@ -1,23 +1,12 @@
--- 02, "One": which pulses go as pairs, and which pairs await a reply.
+-- 02, "One": which pairs are on the wire, and which of them await a reply.
 -- Assumes nothing.
 use mathlib.Core.Bool.{Bool, true, false, not}
 use Prim.Native.Nat.{ℕ}
 use Rattle.terms.specs.Choice.{both}
 use Rattle.bits.specs.Bits.{pairBit}
-use Rattle.place.specs.Phases.{carries}
-use Rattle.place.specs.declared.Carries.{Carries}
-use Rattle.place.specs.declared.Carries.the-variants.{Pairs, Bits, Nothing}
 use Rattle.place.specs.declared.Phase.{Phase}
 use Rattle.place.specs.declared.Phase.the-variants.{Calibration, Handshake, Connection, Version, Command, Zeros, Size, Image, Wait, Ended}
-
--- The phases that carry pairs.
-abbrev pub arePairs : Carries → Bool
-arePairs Pairs = true
-arePairs Bits = false
-arePairs Nothing = false
-
-abbrev pub inPairs : Phase → Bool
-inPairs phase = arePairs (carries phase)
+use Rattle.packing.specs.Phases.{inPairs}
 
 -- The pairs of steps 3, 4, 7 and 8 are answered.
 abbrev pub answered : Phase → Bool

@@ -6,7 +6,7 @@ use Prim.Native.Nat.{ℕ}
 use Rattle.terms.specs.Refusals.{taken}
 use Rattle.serial.specs.Step.{serialStart, serialStep}
 use Rattle.serial.specs.declared.Wire.{Wire}
-use Rattle.serial.specs.declared.Packing.{Packing}
+use Rattle.packing.specs.declared.Packing.{Packing}
 use Rattle.serial.specs.declared.Serial.{Serial}
 use Rattle.serial.specs.declared.Turn.{Turn}
 

@@ -14,12 +14,12 @@ use Rattle.place.specs.declared.Phase.the-variants.{Calibration}
 use Rattle.place.specs.declared.Place.{Place}
 use Rattle.follow.specs.Follow.{opened}
 use Rattle.frames.specs.Frames.{byteOf}
-use Rattle.serial.specs.Filling.{sentAt}
+use Rattle.packing.specs.Filling.{sentAt}
 use Rattle.serial.specs.Replies.{came, wrongReply, resumed}
-use Rattle.serial.specs.declared.Filling.{Filling}
+use Rattle.packing.specs.declared.Filling.{Filling}
 use Rattle.serial.specs.declared.Wire.{Wire}
 use Rattle.serial.specs.declared.Wire.the-variants.{Nothing, Byte}
-use Rattle.serial.specs.declared.Packing.{Packing}
+use Rattle.packing.specs.declared.Packing.{Packing}
 use Rattle.serial.specs.declared.Serial.{Serial}
 use Rattle.serial.specs.declared.Turn.{Turn}
 use Rattle.serial.specs.declared.Started.{Started}

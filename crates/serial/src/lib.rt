@@ -4,22 +4,15 @@ ghost use Rattle.place.specs.Endings.{endAt, toldEnd};
 ghost use Rattle.serial.specs.Phases.{awaits};
 ghost use Rattle.serial.specs.Step.{serialStart, serialStep, toldStarted, toldStepped, turnOf, turnAt};
 
-mod bytes;
 mod ranges;
 mod replies;
 
-use frames::Frame;
 use load::Accepted;
 use load::Load;
+use packing::Packing;
 use place::HostEnd;
 use place::Phase;
 use place::Place;
-
-// How many bits a byte holds at most.
-pub enum Packing {
-    One,
-    Three,
-}
 
 // What the wire carries in one direction, for one call: nothing, or a byte.
 pub enum Wire {
@@ -33,13 +26,6 @@ pub struct Serial {
     pub load: Load,
     pub place: Place,
     pub packing: Packing,
-}
-
-// A byte being filled: its frame, the place of the next bit, and whether that bit may join it.
-pub struct Filling {
-    pub frame: Frame,
-    pub place: Place,
-    pub going: bool,
 }
 
 // What `Serial::start` answers: a refusal by its number, or the session before its first byte.
@@ -143,7 +129,7 @@ fn turn_at(serial: Serial, image: &[u8], place: Place) -> Turn
             },
         };
     }
-    let filling = bytes::sent_at(packing, load, image, place);
+    let filling = packing::sent_at(packing, load, image, place);
     let frame = filling.frame;
     let next = filling.place;
     Turn {

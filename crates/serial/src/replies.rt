@@ -1,6 +1,6 @@
 // What comes back for a byte, and where it counts.
 ghost use mathlib.Core.Path.{_≡_};
-ghost use Rattle.serial.specs.Phases.{answered, inPairs, pending, awaits};
+ghost use Rattle.serial.specs.Phases.{answered, pending, awaits};
 ghost use Rattle.serial.specs.Replies.{came, neither, other, resumed, seenIn, wrongReply};
 use crate::Wire;
 use load::Load;
@@ -37,10 +37,11 @@ pub(crate) fn is_wrong(place: Place, back: Wire) -> bool
 fn is_pending(phase: Phase, index: u32) -> bool
     ensures { λ r. ⌜ r ≡ pending phase index ⌝ }
 {
-    if in_pairs(phase) {
-        return !bits::pair_bit(index);
+    match phase.carries() {
+        Carries::Pairs => !bits::pair_bit(index),
+        Carries::Bits => false,
+        Carries::Nothing => false,
     }
-    false
 }
 
 pub(crate) fn awaits(phase: Phase, index: u32) -> bool
@@ -86,17 +87,6 @@ fn is_other(byte: u8) -> bool
         return false;
     }
     byte != ONE
-}
-
-// Whether a phase carries pairs.
-pub(crate) fn in_pairs(phase: Phase) -> bool
-    ensures { λ r. ⌜ r ≡ inPairs phase ⌝ }
-{
-    match phase.carries() {
-        Carries::Pairs => true,
-        Carries::Bits => false,
-        Carries::Nothing => false,
-    }
 }
 
 // Whether a reply to a pair of the phase is looked at.

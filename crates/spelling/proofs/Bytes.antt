@@ -19,7 +19,7 @@ use Rattle.place.specs.declared.Ending.the-variants.{Done, Lost}
 use Rattle.place.specs.declared.Phase.{Phase}
 use Rattle.place.specs.declared.Phase.the-variants.{Calibration, Handshake, Connection, Version, Command, Zeros, Size, Image, Wait, Ended}
 use Rattle.place.specs.declared.Place.{Place}
-use Rattle.serial.specs.Phases.{inPairs}
+use Rattle.packing.specs.Phases.{inPairs}
 
 abbrev waited : Acknowledgement → ℕ
 waited Ram = 0

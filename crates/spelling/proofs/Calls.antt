@@ -18,18 +18,19 @@ use Rattle.place.specs.declared.Phase.{Phase}
 use Rattle.place.specs.declared.Place.{Place}
 use Rattle.frames.specs.Frames.{byteOf}
 use Rattle.frames.specs.LowRuns.{lowRuns, run}
-use Rattle.frames.specs.declared.Frame.{Frame}
 use Rattle.frames.proofs.Spells.{laid, widths, frame-spells}
-use Rattle.serial.specs.Phases.{inPairs, pending}
-use Rattle.serial.specs.Filling.{paired, filled, sentAt}
+use Rattle.packing.specs.Phases.{inPairs}
+use Rattle.packing.proofs.Full.{filled-byte}
+use Rattle.packing.proofs.Phases.{in-bits}
+use Rattle.serial.specs.Phases.{pending}
+use Rattle.packing.specs.Filling.{paired, filled, sentAt}
 use Rattle.serial.specs.Replies.{resumed}
-use Rattle.serial.specs.declared.Filling.{Filling}
-use Rattle.serial.specs.declared.Packing.{Packing}
+use Rattle.packing.specs.declared.Filling.{Filling}
+use Rattle.packing.specs.declared.Packing.{Packing}
 use Rattle.spelling.specs.Spelling.{Told}
 use Rattle.spelling.proofs.Bytes.{bytesAt, pair-grows}
-use Rattle.spelling.proofs.Fills.{filled-whole}
-use Rattle.serial.proofs.Places.{first-even, settled-first, after-first, pending-second, first-onward, first-next, pair-bits, resumed-here, resumed-past}
-use Rattle.spelling.proofs.Packed.{some-spell}
+use Rattle.spelling.proofs.Fills.{walks-say, walks-grow}
+use Rattle.serial.proofs.Places.{first-even, settled-first, after-first, pending-second, first-onward, first-next, pair-bits, resumed-here, resumed-past, walks-settled}
 use Rattle.spelling.proofs.Says.{Says, said, says, says-stands}
 
 module _ (packing : Packing) (load : Load) (long : 1 ≤ load .command → 16 ≤ load .length .0) (t : Told)
@@ -84,17 +85,19 @@ module _ (packing : Packing) (load : Load) (long : 1 ≤ load .command → 16 �
   run-carries : inPairs phase ≡ false → Carries (filled packing load (t .image) here)
   run-carries p =
       let f = filled packing load (t .image) here in
-      let x = filled-whole packing load here t lends long k stands (record { bits = p; on = on }) in
+      let x = filled-byte packing load (t .image) here (in-bits phase (record { bits = p; on = on })) in
+      let sent = walks-say load t lends here (f .place) (x .bits) (x .way) in
+      let grows = walks-grow load t lends long k here (f .place) (x .bits) (x .way) stands in
+      let left = walks-settled load (t .image) here (f .place) (x .bits) (x .way) settled in
+      let there = sym (resumed-here load (f .place .phase) (f .place .index) (t .seen) left) in
       record {
         bits = x .bits;
-        some = x .least;
-        runs = ap (λ (y : Frame). lowRuns (byteOf (y .lows))) (x .frame) ∙ some-spell (x .bits) (x .least) (x .room);
-        sent = subst (Says load here (replicate (length (x .bits)) t) (x .bits))
-            (sym (resumed-here load (f .place .phase) (f .place .index) (t .seen) (x .settled))) (x .sent);
-        grows = subst (λ (q : Place). suc (bytesAt load phase i) ≤ bytesAt load (q .phase) (q .index))
-            (sym (resumed-here load (f .place .phase) (f .place .index) (t .seen) (x .settled))) (omega (arith, x .grows, x .least));
+        some = x .some;
+        runs = x .runs;
+        sent = subst (Says load here (replicate (length (x .bits)) t) (x .bits)) there sent;
+        grows = subst (λ (q : Place). suc (bytesAt load phase i) ≤ bytesAt load (q .phase) (q .index)) there (omega (arith, grows, x .some));
         count = k + length (replicate (length (x .bits)) t);
-        inside = says-stands load long k here (f .place) _ (x .bits) (x .sent) stands;
+        inside = says-stands load long k here (f .place) _ (x .bits) sent stands;
       }
 
   pub byte-carries : Carries (sentAt packing load (t .image) phase i)

@@ -1,5 +1,6 @@
 pub mod Bytes
 pub mod Calls
+pub mod Fewest
 pub mod Fills
 pub mod Packed
 pub mod Says

@@ -28,11 +28,11 @@ use Rattle.session.proofs.Kept.{start-keeps}
 use Rattle.session.proofs.Starts.{length-kept, lent-again}
 use Rattle.frames.specs.LowRuns.{run}
 use Rattle.serial.specs.Replies.{came, wrongReply, resumed}
-use Rattle.serial.specs.Filling.{sentAt}
+use Rattle.packing.specs.Filling.{sentAt}
 use Rattle.serial.specs.Step.{fresh, serialStart, serialOutside, serialRows, movedTo, byteSent, turnAt, turnOf, serialStep}
 use Rattle.serial.specs.declared.Wire.{Wire}
 use Rattle.serial.specs.declared.Wire.the-variants.{Nothing, Byte}
-use Rattle.serial.specs.declared.Packing.{Packing}
+use Rattle.packing.specs.declared.Packing.{Packing}
 use Rattle.serial.specs.declared.Serial.{Serial}
 use Rattle.serial.specs.declared.Turn.{Turn}
 use Rattle.serial.proofs.Starts.{start-load}

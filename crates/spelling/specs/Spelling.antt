@@ -17,7 +17,7 @@ use Rattle.session.specs.declared.Session.{Session}
 use Rattle.frames.specs.LowRuns.{lowRuns, run}
 use Rattle.serial.specs.Replies.{came, wrongReply}
 use Rattle.serial.specs.Step.{serialStart, serialStep}
-use Rattle.serial.specs.declared.Packing.{Packing}
+use Rattle.packing.specs.declared.Packing.{Packing}
 use Rattle.serial.specs.declared.Serial.{Serial}
 use Rattle.serial.specs.declared.Turn.{Turn}
 use Rattle.serial.specs.declared.Wire.{Wire}

@@ -1,11 +1,11 @@
 -- `Frame::with`: a bit that fits leaves room in both fields.
 -- Assumes nothing.
 use mathlib.Core.Path.{sym, _∙_}
-use Prim.Native.Nat.{_+_}
 use native.Mathlib.Omega.{arith}
-use borrow.Author.Tests.{leb-true, not-true, not-false}
+use borrow.Author.Tests.{not-true, not-false}
 use Rattle.terms.proofs.Tests.{when-true, when-false}
-use Rattle.frames.specs.Frames.{width, fits, with}
+use Rattle.frames.specs.Frames.{with}
+use Rattle.frames.proofs.Spells.{fits-room}
 use borrow.Author.Needs.{needs}
 use Rattle.frames.proofs.Frame.with.Statement.{statement}
 use Rattle.frames.proofs.Frame.with.Tie as tie
@@ -24,24 +24,20 @@ cast-t6 : tie.Need-cast-t6
 cast-t6 c = search needs
 
 shl-t7 : tie.Need-shl-t7
-unfolding fits
 shl-t7 c =
     let fitting = c .before .before in
     let start = fitting .before .before in
-    let room = leb-true (start .args .self .used + width (start .args .bit)) 10
-    (sym (fitting .before .fits2 .ensures) ∙ not-false _ (fitting .if1 .left)) in
+    let room = fits-room (start .args .self) (start .args .bit) (sym (fitting .before .fits2 .ensures) ∙ not-false _ (fitting .if1 .left)) in
     omega (arith, room)
 
 width-requires : tie.Need-width-requires
 width-requires c κs = search needs
 
 add-t10 : tie.Need-add-t10
-unfolding fits
 add-t10 c =
     let fitting = c .before .before .before .before .before in
     let start = fitting .before .before in
-    let room = leb-true (start .args .self .used + width (start .args .bit)) 10
-    (sym (fitting .before .fits2 .ensures) ∙ not-false _ (fitting .if1 .left)) in
+    let room = fits-room (start .args .self) (start .args .bit) (sym (fitting .before .fits2 .ensures) ∙ not-false _ (fitting .if1 .left)) in
     omega (arith, room, c .before .width .ensures)
 
 returns-2 : tie.Need-returns-2

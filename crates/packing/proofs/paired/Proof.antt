@@ -1,10 +1,10 @@
--- `bytes::paired` lays the bits 1, 0 and leaves the place at the second pulse.
+-- `paired` lays the bits 1, 0 and leaves the place at the second pulse.
 -- Assumes nothing.
 use mathlib.Core.Path.{refl}
 use borrow.Author.Needs.{needs}
-use Rattle.serial.specs.Filling.{paired}
-use Rattle.serial.proofs.bytes.paired.Statement.{statement}
-use Rattle.serial.proofs.bytes.paired.Tie as tie
+use Rattle.packing.specs.Filling.{paired}
+use Rattle.packing.proofs.paired.Statement.{statement}
+use Rattle.packing.proofs.paired.Tie as tie
 
 with-requires : tie.Need-with-requires
 with-requires c κs = search needs

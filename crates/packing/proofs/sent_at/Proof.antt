@@ -1,10 +1,10 @@
--- `bytes::sent_at` sends a pair by itself, and fills a byte otherwise.
+-- `sent_at` sends a pair by itself, and fills a byte otherwise.
 -- Assumes nothing.
 use Rattle.terms.proofs.Refusals.{walk}
 use borrow.Author.Needs.{needs}
-use Rattle.serial.specs.Filling.{sentAt}
-use Rattle.serial.proofs.bytes.sent_at.Statement.{statement}
-use Rattle.serial.proofs.bytes.sent_at.Tie as tie
+use Rattle.packing.specs.Filling.{sentAt}
+use Rattle.packing.proofs.sent_at.Statement.{statement}
+use Rattle.packing.proofs.sent_at.Tie as tie
 
 in-pairs-requires : tie.Need-in-pairs-requires
 in-pairs-requires c κs = search needs

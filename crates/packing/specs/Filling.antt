@@ -1,10 +1,10 @@
--- 02, "One": what a byte holds. Pairs go by themselves; of a run of bits a byte holds what is left, up to so many.
+-- 02, "One" and "Seven": what a byte holds. Pairs go by themselves; of a run of bits a byte holds those that fit, up to so many.
 -- Assumes nothing.
 use mathlib.Core.Bool.{Bool, true, false}
 use mathlib.Core.List.{List}
 use Prim.Native.Nat.{ℕ, zero, suc}
 use lib.Dec.{ltb}
-use Rattle.terms.specs.Choice.{when}
+use Rattle.terms.specs.Choice.{when, either}
 use Rattle.load.specs.declared.Load.{Load}
 use Rattle.place.specs.declared.Phase.{Phase}
 use Rattle.place.specs.declared.Place.{Place}
@@ -12,20 +12,27 @@ use Rattle.bits.specs.Bits.{sentBit}
 use Rattle.follow.specs.Follow.{onward}
 use Rattle.frames.specs.Frames.{empty, fits, with}
 use Rattle.frames.specs.declared.Frame.{Frame}
-use Rattle.serial.specs.Phases.{inPairs}
-use Rattle.serial.specs.declared.Filling.{Filling}
-use Rattle.serial.specs.declared.Packing.{Packing}
-use Rattle.serial.specs.declared.Packing.the-variants.{One, Three}
+use Rattle.packing.specs.Phases.{inBits, inPairs}
+use Rattle.packing.specs.declared.Filling.{Filling}
+use Rattle.packing.specs.declared.Packing.{Packing}
+use Rattle.packing.specs.declared.Packing.the-variants.{One, Three, Fewest}
 
--- The bits that a byte holds at most.
+-- The bits that a byte holds at most. "$55 carries five ones", and no byte more.
 abbrev pub most : Packing → ℕ
 most One = 1
 most Three = 3
+most Fewest = 5
 
--- Handshake, command, size and image are packed each by itself: at a phase's first place no byte goes on.
-abbrev pub goesOn : Packing → Place → Bool
-goesOn One to = ltb 0 (to .index)
-goesOn Three to = ltb 0 (to .index)
+-- "Handshake, command, size and image are packed each by itself": a byte doesn't go on into another phase. For the fewest bytes "command,
+-- size and image form one run of bits": it goes on into one of bits.
+abbrev pub goesInto : Packing → Phase → Bool
+goesInto One to = false
+goesInto Three to = false
+goesInto Fewest to = inBits to
+
+-- Within a phase it goes on; at a phase's first place, where it goes on into that phase.
+unfoldable pub goesOn : Packing → Place → Bool
+goesOn packing to = either (ltb 0 (to .index)) (goesInto packing (to .phase))
 
 -- A byte before its first bit.
 abbrev pub atFirst : Place → Filling

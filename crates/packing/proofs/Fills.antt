@@ -13,11 +13,17 @@ use Rattle.load.specs.declared.Load.{Load}
 use Rattle.bits.specs.Bits.{sentBit}
 use Rattle.follow.specs.Follow.{onward}
 use Rattle.place.specs.declared.Place.{Place}
-use Rattle.frames.specs.Frames.{fits, with}
+use Rattle.frames.specs.Frames.{empty, fits, with}
 use Rattle.frames.specs.declared.Frame.{Frame}
-use Rattle.serial.specs.Filling.{most, goesOn, atFirst, joined, closed, tried, more, filledTo, filled}
-use Rattle.serial.specs.declared.Filling.{Filling}
-use Rattle.serial.specs.declared.Packing.{Packing}
+use Rattle.packing.specs.Filling.{most, goesOn, atFirst, joined, closed, tried, more, filledTo, filled}
+use Rattle.packing.specs.declared.Filling.{Filling}
+use Rattle.packing.specs.declared.Packing.{Packing}
+use Rattle.packing.specs.declared.Packing.the-variants.{One, Three, Fewest}
+
+pub some-most : (packing : Packing) → 1 ≤ most packing
+some-most One = omega arith
+some-most Three = omega arith
+some-most Fewest = omega arith
 
 module _ (packing : Packing) (load : Load) (image : List ℕ) (start : Place) where
   abbrev after : ℕ → Filling
@@ -61,6 +67,24 @@ module _ (packing : Packing) (load : Load) (image : List ℕ) (start : Place) wh
       let same : suc j + k ≡ suc (j + k) = omega arith in
       sym (when-false _ _ q) ∙ ap (more packing load image) (stays f k e q j) ∙ ap after (sym same)
 
+  -- The same counted from the first bit on.
+  first-fits : (b : Bool) → fits empty b ≡ true
+  unfolding fits
+  first-fits true = refl
+  first-fits false = refl
+
+  goes-back : (k : ℕ) → filledTo packing load image k (after 1) ≡ after (k + 1)
+  unfolding filledTo
+  goes-back zero = refl
+  goes-back (suc k) =
+      let same : suc (k + 1) ≡ suc k + 1 = omega arith in
+      ap (more packing load image) (goes-back k) ∙ ap after same
+
+  pub from-first : (first : Filling) (n : ℕ) → first ≡ after 1 → 1 ≤ n → filledTo packing load image (n - 1) first ≡ after n
+  from-first first n e h =
+      let count : n - 1 + 1 ≡ n = omega (arith, h) in
+      ap (filledTo packing load image (n - 1)) e ∙ goes-back (n - 1) ∙ ap after count
+
   over : (f : Filling) (k all : ℕ) → f ≡ after k → f .going ≡ false → k ≤ all → all ≡ most packing → closed f ≡ filled packing load image start
   unfolding filled
   over f k all e q h m =
@@ -83,3 +107,14 @@ module _ (packing : Packing) (load : Load) (image : List ℕ) (start : Place) wh
     pub run-over : (f : Frame) (to : Place) → fits frame b ≡ true → f ≡ with frame b → to ≡ onward load (place .phase) (place .index)
         → goesOn packing to ≡ false → closed (on f to) ≡ filled packing load image start
     run-over f to e q r going = over (joined packing f to) (n + 1) all (joins n frame place so-far b next f to e q r) going h m
+
+  -- The first bit always fits.
+  module _ (b : Bool) (is : b ≡ sentBit load image (start .phase) (start .index)) (f : Frame) (to : Place) (q : f ≡ with empty b)
+      (r : to ≡ onward load (start .phase) (start .index)) where
+    pub begins : goesOn packing to ≡ true → on f to ≡ after 1
+    unfolding filledTo
+    begins going = goes-on 0 empty start refl b is f to (first-fits b) q r going
+
+    pub alone : goesOn packing to ≡ false → closed (on f to) ≡ filled packing load image start
+    unfolding filledTo
+    alone going = run-over 0 (most packing) empty start refl b is (some-most packing) refl f to (first-fits b) q r going

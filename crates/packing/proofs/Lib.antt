@@ -1,0 +1,7 @@
+pub mod Fewest
+pub mod Fills
+pub mod Full
+pub mod Phases
+pub mod Shortest
+pub mod Unique
+pub mod Walks

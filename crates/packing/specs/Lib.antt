@@ -1,0 +1,4 @@
+pub mod Fewest
+pub mod Filling
+pub mod Phases
+pub mod Runs
