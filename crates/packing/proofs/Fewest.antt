@@ -24,7 +24,7 @@ use Rattle.frames.specs.LowRuns.{lowRuns, run}
 use Rattle.frames.proofs.Spells.{widths}
 use Rattle.packing.specs.Phases.{inBits}
 use Rattle.packing.specs.Runs.{bitsFrom, bitsOf, Run, handshake, command, zeros}
-use Rattle.packing.specs.Fewest.{runsIn, Bytes, Least, filledAt, Fills, done, fills, EveryRun}
+use Rattle.packing.specs.Fewest.{runsIn, Bytes, filledAt, Fills, done, fills, EveryRunPacked}
 use Rattle.packing.specs.declared.Packing.the-variants.{Fewest}
 use Rattle.packing.proofs.Full.{whole-byte, full-byte}
 use Rattle.packing.proofs.Shortest.{cat, Tight, nothing, last, full, no-fewer}
@@ -167,8 +167,8 @@ module _ (load : Load) (image : List ℕ) where
     run-out _ _ command = when-elim (Out Command) (eqb (load .command) 0) (bitsOf load image Command) Whole alone loads
     run-out _ _ zeros = record { end = opened (Ended WrongVersion); way = all-way Zeros refl 31 refl; out = refl }
 
-pub every-run : EveryRun
-every-run load image first bits within begins =
+pub every-run-packed : EveryRunPacked
+every-run-packed load image first bits within begins =
     let whole = chain load image (suc (left load first 0)) (opened first) (omega arith) in
     let out = run-out load image (load-within load within .long) first bits begins in
     let same : cat (whole .lists) ≡ bits =

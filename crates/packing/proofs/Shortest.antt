@@ -11,7 +11,7 @@ use lib.ListN.{length, length-append}
 use Rattle.terms.specs.Choice.{when}
 use Rattle.terms.proofs.Tests.{when-elim}
 use Rattle.frames.specs.Frames.{width}
-use Rattle.frames.specs.LowRuns.{levels, bitTimes, runs, lowRuns, run}
+use Rattle.frames.specs.LowRuns.{levels, runs, lowRuns, run}
 use Rattle.frames.proofs.Spells.{widths}
 use Rattle.packing.specs.Fewest.{runsIn}
 

@@ -57,6 +57,8 @@ module _ (load : Load) (image : List ℕ) where
     pub over : inBits (left .phase) ≡ false
     pub least : Least bits bytes
 
--- Each run of each load that a start takes; the same image throughout.
-abbrev pub EveryRun : Type 0
-EveryRun = (load : Load) (image : List ℕ) (first : Phase) (bits : List Bool) → loadOutside load ≡ false → Run load image first bits → Packed load image first bits
+-- Each run of each load within its ranges; the same image throughout.
+abbrev pub EveryRunPacked : Type 0
+EveryRunPacked =
+    (load : Load) (image : List ℕ) (first : Phase) (bits : List Bool) → loadOutside load ≡ false → Run load image first bits
+    → Packed load image first bits

@@ -17,7 +17,7 @@ use Rattle.packing.specs.declared.Filling.{Filling}
 use Rattle.packing.specs.declared.Packing.{Packing}
 use Rattle.packing.specs.declared.Packing.the-variants.{One, Three, Fewest}
 
--- The bits that a byte holds at most. "$55 carries five ones", and no byte more.
+-- The bits that a byte holds at most: "$55 carries five ones", and none holds more.
 abbrev pub most : Packing → ℕ
 most One = 1
 most Three = 3

@@ -13,7 +13,7 @@ use Rattle.sequence.specs.Sequence.{draw}
 use Rattle.units.specs.declared.Seen.{Seen}
 use Rattle.units.specs.declared.Seen.the-variants.{Silence, Zero, One}
 use Rattle.bits.specs.Bits.{pairBit, sentBit}
-use Rattle.follow.specs.Follow.{opened, after, onward, shows, afterConnection, afterVersionPair, afterWaitPair, afterPair, next}
+use Rattle.follow.specs.Follow.{opened, onward, shows, afterConnection, afterVersionPair, afterWaitPair, afterPair, next}
 use Rattle.place.specs.Phases.{pairs, places, ended}
 use Rattle.place.specs.declared.Acknowledgement.{Acknowledgement}
 use Rattle.place.specs.declared.Acknowledgement.the-variants.{Ram, Programming, Verification}

@@ -1,7 +1,7 @@
 -- The calls of a run send the bytes that fill it, one after the other: each is taken, and what comes back is not looked at.
 -- Assumes nothing.
 use mathlib.Core.Bool.{Bool, true, false, not, true≢false, false≢true}
-use mathlib.Core.List.{List, [], _∷_}
+use mathlib.Core.List.{List}
 use mathlib.Core.Path.{_≡_, refl, sym, ap, _∙_, subst}
 use Prim.Native.Nat.{ℕ, suc, _≤_}
 use native.Mathlib.Omega.{arith}
@@ -9,7 +9,7 @@ use Rattle.terms.specs.Choice.{both}
 use Rattle.terms.specs.Refusals.{taken}
 use Rattle.terms.proofs.Refusals.{taken-exactly, clear-taken}
 use Rattle.terms.proofs.Tests.{when-false}
-use Rattle.load.specs.Load.{loadOutside, otherImage}
+use Rattle.load.specs.Load.{otherImage}
 use Rattle.load.specs.declared.Load.{Load}
 use Rattle.bits.specs.Bits.{pairBit}
 use Rattle.follow.specs.Follow.{opened}
@@ -17,26 +17,24 @@ use Rattle.place.specs.Phases.{ended}
 use Rattle.place.specs.declared.Phase.{Phase}
 use Rattle.place.specs.declared.Phase.the-variants.{Calibration, Handshake, Connection, Version, Command, Zeros, Size, Image, Wait, Ended}
 use Rattle.place.specs.declared.Place.{Place}
-use Rattle.frames.specs.Frames.{byteOf}
-use Rattle.packing.specs.Fewest.{filledAt, Fills, done, fills, Packed}
+use Rattle.packing.specs.Fewest.{filledAt, Fills, done, fills}
 use Rattle.packing.specs.Filling.{sentAt}
 use Rattle.packing.specs.Phases.{inBits}
 use Rattle.packing.specs.Runs.{Run, handshake, command, zeros}
 use Rattle.packing.specs.declared.Packing.{Packing}
 use Rattle.packing.specs.declared.Packing.the-variants.{Fewest}
-use Rattle.packing.proofs.Fewest.{every-run}
+use Rattle.packing.proofs.Fewest.{every-run-packed}
 use Rattle.packing.proofs.Full.{whole-byte}
 use Rattle.packing.proofs.Phases.{plain}
 use Rattle.serial.specs.Phases.{answered, awaits}
 use Rattle.serial.specs.Replies.{came, neither, wrongReply}
-use Rattle.serial.specs.Step.{serialOutside, serialRows, resumedAt, movedTo, byteSent, turnAt, turnOf, serialStep}
+use Rattle.serial.specs.Step.{serialRows, resumedAt, movedTo, byteSent, turnAt, turnOf, serialStep}
 use Rattle.serial.specs.declared.Serial.{Serial}
-use Rattle.serial.specs.declared.Turn.{Turn}
 use Rattle.serial.specs.declared.Wire.{Wire}
 use Rattle.serial.proofs.Kept.{Within, within, not-outside, step-keeps}
-use Rattle.serial.proofs.Places.{Settled, bits-settled, resumed-settled, resumed-here, walks-settled}
-use Rattle.spelling.specs.Fewest.{Sends, silent, sends, RunSent, EveryRunSent}
-use Rattle.spelling.specs.Spelling.{sentBy, handed, serials}
+use Rattle.serial.proofs.Places.{Settled, resumed-settled, resumed-here, walks-settled}
+use Rattle.spelling.specs.Fewest.{Sends, silent, sends, EveryRunSent}
+use Rattle.spelling.specs.Spelling.{handed, serials}
 
 -- In a phase of bits no reply is looked at.
 not-answered : (phase : Phase) → inBits phase ≡ true → answered phase ≡ false
@@ -99,6 +97,11 @@ module _ (x : Serial) (lent : ℕ → List ℕ) (back : ℕ → Wire) (load : Lo
         walks-settled load image p left (y .bits) (y .way)
         (subst Settled (r .here) (resumed-settled (at m .load) (at m .place .phase) (at m .place .index) (came (back m))))
 
+    next-here : resumedAt (at (suc m)) (back (suc m)) ≡ left
+    next-here =
+        ap (λ (s : Serial). resumedAt s (back (suc m))) next-is
+        ∙ resumed-here (at m .load) (left .phase) (left .index) (came (back (suc m))) settled
+
     -- The next call fills its byte from where this one is left.
     next-ready : lent (suc m) ≡ image → inBits (left .phase) ≡ true → Ready (suc m) left
     next-ready same go =
@@ -108,8 +111,7 @@ module _ (x : Serial) (lent : ℕ → List ℕ) (back : ℕ → Wire) (load : Lo
           third = ap (λ (s : Serial). s .packing) next-is ∙ r .third;
           loaded = loads ∙ r .loaded;
           same = same;
-          here = ap (λ (s : Serial). resumedAt s (back (suc m))) next-is
-              ∙ resumed-here (at m .load) (left .phase) (left .index) (came (back (suc m))) settled;
+          here = next-here;
           within = subst (λ (s : Serial). Within (s .load) (s .place)) (sym next-is)
               (step-keeps (at m) (lent m) (back m) (byteSent (at m) (filledAt load image p)) step-is);
           going = ap (λ (q : Place). ended (q .phase)) there ∙ plain (left .phase) go .on;
@@ -126,14 +128,14 @@ module _ (x : Serial) (lent : ℕ → List ℕ) (back : ℕ → Wire) (load : Lo
   record Sent (m : ℕ) (bytes : List ℕ) (q : Place) : Type 0 where
     end : ℕ
     calls : Sends x lent back m bytes end
-    last : at end .place ≡ q
+    last : resumedAt (at end) (back end) ≡ q
 
   follows : (m : ℕ) (p q : Place) (bytes : List ℕ) → Fills load image p bytes q → inBits (q .phase) ≡ false
-      → (inBits (p .phase) ≡ false → at m .place ≡ p) → (inBits (p .phase) ≡ true → Ready m p) → ((k : ℕ) → m ≤ k → lent k ≡ image) → Sent m bytes q
+      → (inBits (p .phase) ≡ false → resumedAt (at m) (back m) ≡ p) → (inBits (p .phase) ≡ true → Ready m p) → ((k : ℕ) → m ≤ k → lent k ≡ image) → Sent m bytes q
   follows m p _ _ (done _) over there ready same = record { end = m; calls = silent m; last = there over }
   follows m p q _ (fills _ bytes _ on rest) over there ready same =
       let r = ready on in
-      let more = follows (suc m) _ q bytes rest over (λ off. ap (λ (s : Serial). s .place) (next-is m p r on))
+      let more = follows (suc m) _ q bytes rest over (λ off. next-here m p r on)
       (next-ready m p r on (same (suc m) (omega arith))) (λ k h. same k (omega (arith, h))) in
       record { end = more .end; calls = sends m _ bytes (more .end) (sent-so m p r on) (more .calls); last = more .last }
 
@@ -148,7 +150,7 @@ every-run-sent x lent back n image bits third b same =
     let s = serials x lent back n in
     let passed = taken-exactly (turnOf s (lent n) (back n)) (b .turn) (serialRows s (lent n) (back n)) .0 (b .taken-so) in
     let inside = within (s .load) (s .place) (passed .0 .0) in
-    let whole = every-run (s .load) image (b .first) bits (inside .loaded) (b .run) in
+    let whole = every-run-packed (s .load) image (b .first) bits (inside .loaded) (b .run) in
     let ready : Ready x lent back (s .load) image n (opened (b .first)) = record {
       third = third;
       loaded = refl;
