@@ -116,21 +116,21 @@ fn came(back: Wire) {
 fn refusals() {
     say(b"refusals in their order\n");
     say(b"13 before 14:");
-    refused(1, 15, Phase::Ended(Ending::Done), 0, Wire::Byte(0xfd));
+    lent_15(1, 15, Phase::Ended(Ending::Done), 0, Wire::Byte(0xfd));
     say(b"14:");
-    refused(1, 16, Phase::Ended(Ending::Done), 0, Wire::Byte(0xfd));
+    lent_15(1, 16, Phase::Ended(Ending::Done), 0, Wire::Byte(0xfd));
     say(b"15 before 5:");
-    refused(1, 16, Phase::Connection, 1, Wire::Byte(0xfd));
+    lent_15(1, 16, Phase::Connection, 1, Wire::Byte(0xfd));
     say(b"5:");
-    refused(1, 16, Phase::Connection, 1, Wire::Byte(0xfe));
+    lent_15(1, 16, Phase::Connection, 1, Wire::Byte(0xfe));
     say(b"5 in the handshake:");
-    refused(1, 16, Phase::Handshake, 3, Wire::Byte(0xfd));
+    lent_15(1, 16, Phase::Handshake, 3, Wire::Byte(0xfd));
     say(b"never for command 0:");
-    refused(0, 0, Phase::Handshake, 3, Wire::Byte(0xfd));
+    lent_15(0, 0, Phase::Handshake, 3, Wire::Byte(0xfd));
 }
 
-// Lent 15 bytes.
-fn refused(command: u32, length: usize, phase: Phase, index: u32, back: Wire) {
+// By three bits a byte, lent 15 bytes.
+fn lent_15(command: u32, length: usize, phase: Phase, index: u32, back: Wire) {
     call(Packing::Three, command, length, phase, index, 15, back);
 }
 
