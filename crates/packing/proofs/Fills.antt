@@ -67,12 +67,7 @@ module _ (packing : Packing) (load : Load) (image : List ℕ) (start : Place) wh
       let same : suc j + k ≡ suc (j + k) = omega arith in
       sym (when-false _ _ q) ∙ ap (more packing load image) (stays f k e q j) ∙ ap after (sym same)
 
-  -- The same counted from the first bit on.
-  first-fits : (b : Bool) → fits empty b ≡ true
-  unfolding fits
-  first-fits true = refl
-  first-fits false = refl
-
+  -- Turns that are counted from the second bit on.
   goes-back : (k : ℕ) → filledTo packing load image k (after 1) ≡ after (k + 1)
   unfolding filledTo
   goes-back zero = refl
@@ -109,6 +104,11 @@ module _ (packing : Packing) (load : Load) (image : List ℕ) (start : Place) wh
     run-over f to e q r going = over (joined packing f to) (n + 1) all (joins n frame place so-far b next f to e q r) going h m
 
   -- The first bit always fits.
+  first-fits : (b : Bool) → fits empty b ≡ true
+  unfolding fits
+  first-fits true = refl
+  first-fits false = refl
+
   module _ (b : Bool) (is : b ≡ sentBit load image (start .phase) (start .index)) (f : Frame) (to : Place) (q : f ≡ with empty b)
       (r : to ≡ onward load (start .phase) (start .index)) where
     pub begins : goesOn packing to ≡ true → on f to ≡ after 1

@@ -26,6 +26,7 @@ use Rattle.packing.specs.declared.Packing.{Packing}
 use Rattle.packing.specs.declared.Packing.the-variants.{Fewest}
 use Rattle.packing.proofs.Fills.{some-most}
 use Rattle.packing.proofs.Phases.{plain, goes-in-bits}
+use Rattle.packing.proofs.Shortest.{widths-append}
 use Rattle.packing.proofs.Walks.{bitAt, Walks, stays, walks, walks-append}
 
 laid-more : (f : Frame) (bits : List Bool) (b : Bool) → laid f (bits ++ (b ∷ [])) ≡ with (laid f bits) b
@@ -35,8 +36,7 @@ laid-more f (c ∷ bits) b = laid-more (with f c) bits b
 
 widths-more : (bits : List Bool) (b : Bool) → widths (bits ++ (b ∷ [])) ≡ widths bits + width b
 unfolding widths
-widths-more [] b = omega arith
-widths-more (c ∷ bits) b = omega (arith, widths-more bits b)
+widths-more bits b = let all = widths-append bits (b ∷ []) in omega (arith, all)
 
 pub at-most-three : (b : Bool) → width b ≤ 3
 at-most-three true = omega arith

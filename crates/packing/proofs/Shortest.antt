@@ -52,7 +52,7 @@ cut [] rest x y e = within x e
 cut (b ∷ d) rest [] y e = beyond b d refl (sym e)
 cut (b ∷ d) rest (a ∷ x) y e = cut-more b a d rest x y (ap (headOf b) e) (cut d rest x y (ap tailOf e))
 
-widths-append : (x y : List Bool) → widths (x ++ y) ≡ widths x + widths y
+pub widths-append : (x y : List Bool) → widths (x ++ y) ≡ widths x + widths y
 unfolding widths
 widths-append [] y = omega arith
 widths-append (b ∷ x) y = omega (arith, widths-append x y)
