@@ -4,7 +4,7 @@ use mathlib.Core.Bool.{Bool, true, false, not, false≢true}
 use mathlib.Core.List.{List}
 use mathlib.Core.Path.{◌≡◌, refl}
 use Prim.Native.Nat.{ℕ, zero, suc}
-use borrow.Author.Tests.{not_true}
+use borrow.Author.Tests.{not-true}
 use native.Mathlib.Numerals.{add-one}
 use Rattle.terms.specs.Choice.{both}
 use Rattle.terms.proofs.Tests.{both_true}
@@ -94,5 +94,5 @@ module _ (load : Load) (image : List ℕ) where
       let here = (both_true _ _).0 e in
       let there = (both_true _ _).0 here.1 in
       counted (add-one n)
-      (step n a (talked_times n (talked load image a)) (open_by a (not_true _ here.0) there.0)
+      (step n a (talked_times n (talked load image a)) (open_by a (not-true _ here.0) there.0)
       (computed n (talked load image a) there.1))

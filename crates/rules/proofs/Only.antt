@@ -27,7 +27,7 @@ use Rattle.chip.proofs.Within.{Within}
 use Rattle.rules.specs.Pulses.{Step, Pulse, loaded, pages, phase, command, size, countdown, fault, At, Late, Timely, bit_read, read, as_read, Launches, Boots}
 use Rattle.rules.specs.Rules.{ChipRules, Ruled}
 use Rattle.rules.proofs.Keeping.{kept}
-use Rattle.rules.proofs.Tests.{same_number, same_bit, less_or_not, dead_or_not, not_true, pages_most, same_bytes}
+use Rattle.rules.proofs.Tests.{same_number, same_bit, less_or_not, dead_or_not, not-true, pages_most, same_bytes}
 
 -- All steps that keep the rules leave the same.
 record Fixed (c : Chip) (ram eeprom : List ℕ) (wait low : ℕ) : Type 0 where
@@ -153,7 +153,7 @@ module _ (x : Pulse) where
   by_alignment a at t =
       same_bit (FixedAt x) (bit_read x) true
       (λ e. by_rule (λ step r. r.one_aligned x a at t e))
-      (λ e. by_rule (λ step r. r.zero_aligned x a at t (not_true (bit_read x) e)))
+      (λ e. by_rule (λ step r. r.zero_aligned x a at t (not-true (bit_read x) e)))
 
   by_stored : At x (Rest (Acknowledging Stored)) → Timely x → FixedAt x
   by_stored at t =
@@ -224,7 +224,7 @@ fixed c ram eeprom wait low =
       eeprom = eeprom;
       wait = wait;
       low = low;
-      within = not_true (chip_outside c) o;
+      within = not-true (chip_outside c) o;
       ram_size = r;
       eeprom_size = e;
     } in

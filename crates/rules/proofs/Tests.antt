@@ -46,9 +46,9 @@ dead_or_not P (Accepts n) t f =
     same_number P n 0 (λ e. t (ap Accepts e)) (λ e. f (λ d. e (ap left_of d)))
 dead_or_not P (Reads v a) t f = f (λ e. true≢false (ap acknowledges e))
 
-pub not_true : (b : Bool) → (b ≡ true → ⊥) → b ≡ false
-not_true true e = absurd (e refl)
-not_true false e = refl
+pub not-true : (b : Bool) → (b ≡ true → ⊥) → b ≡ false
+not-true true e = absurd (e refl)
+not-true false e = refl
 
 -- A fault in its range accepts at most 512 pages.
 pub pages_most : (f : Fault) → fault_outside f ≡ false → pages f ≤ 512

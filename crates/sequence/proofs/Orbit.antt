@@ -8,7 +8,7 @@ use native.Mathlib.Nat.{add-zero, add-suc, zero-add, zero-mul, add_comm}
 use native.Mathlib.Omega.{arith}
 use lib.Dec.{eqb}
 use lib.ListN.{get_or}
-use borrow.Author.Tests.{eqb-true, eqb-false, not_true}
+use borrow.Author.Tests.{eqb-true, eqb-false, not-true}
 use Rattle.terms.specs.Choice.{both}
 use Rattle.terms.proofs.Tables.{below, at}
 use Rattle.sequence.specs.Sequence.{advanced, state}
@@ -78,4 +78,4 @@ state_differs n m pos small e =
     let seed : state m ≡ state 0 = sym (turns m n) ∙ ap state (sym left) ∙ turned ∙ ap state right ∙ turns 0 n in
     let far : not (eqb (state (m - 1 + 1)) 0x50) ≡ true = at away 254 all_away (m - 1) (omega arith) in
     let same : m - 1 + 1 ≡ m = omega arith in
-    eqb-false (state m) 0x50 (not_true _ (rw same at far)) seed
+    eqb-false (state m) 0x50 (not-true _ (rw same at far)) seed

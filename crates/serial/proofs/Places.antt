@@ -5,7 +5,7 @@ use mathlib.Core.List.{List}
 use mathlib.Core.Path.{◌≡◌, refl, sym, ap, ◌∙◌, subst}
 use Prim.Native.Nat.{ℕ, ◌+◌, ◌*◌, ◌/◌, ◌%◌, ◌<◌}
 use native.Mathlib.Omega.{arith}
-use borrow.Author.Tests.{eq-eqb, ne_eqb, eqb-true, eqb-false, lt-ltb, not_true, not-false}
+use borrow.Author.Tests.{eq-eqb, ne_eqb, eqb-true, eqb-false, lt-ltb, not-true, not-false}
 use Rattle.terms.specs.Choice.{both}
 use Rattle.terms.proofs.Tests.{when_true, when_false, when_elim, both_true}
 use Rattle.load.specs.declared.Load.{Load}
@@ -128,7 +128,7 @@ module _ (load : Load) where
 
   second_odd : (phase : Phase) (i : ℕ) → pending phase i ≡ true → pair_bit i ≡ false
   unfolding pending
-  second_odd phase i e = not_true (pair_bit i) ((both_true (in_pairs phase) (not (pair_bit i))).0 e).1
+  second_odd phase i e = not-true (pair_bit i) ((both_true (in_pairs phase) (not (pair_bit i))).0 e).1
 
   pub resumed_settled : (phase : Phase) (i : ℕ) (s : Seen) → Settled (resumed load phase i s)
   unfolding resumed

@@ -6,7 +6,7 @@ use mathlib.Core.Path.{◌≡◌, refl, sym, ap, ◌∙◌, subst}
 use Prim.Native.Nat.{ℕ, ◌+◌, ◌-◌, ◌*◌, ◌%◌, ◌≤◌, ◌<◌}
 use native.Mathlib.Omega.{arith}
 use lib.Dec.{eqb, ltb}
-use borrow.Author.Tests.{eqb-true, not_true}
+use borrow.Author.Tests.{eqb-true, not-true}
 use Rattle.terms.specs.Choice.{when}
 use Rattle.terms.proofs.Tests.{when_elim}
 use Rattle.units.specs.declared.Seen.{Seen}
@@ -142,7 +142,7 @@ module _ (t h p l : ℕ) (fit : Fit t h p) (loop : Loop l) where
   module _ (dw dl : ℕ) (low_short : dl ≤ 2 * t * 1000) (wait_short : dw ≤ 10000000000) (at_host : place.Phase)
       (close : waits at_host ≡ false → dw ≤ h * 1000) where
     reading : not (waits at_host) ≡ true → dw + dl ≤ brief
-    reading e = let near = close (not_true _ e) in omega (arith, near, low_short)
+    reading e = let near = close (not-true _ e) in omega (arith, near, low_short)
 
     any : dw + dl ≤ long
     any = omega (arith, low_short, wait_short, fit.t_within.1)

@@ -5,7 +5,7 @@ use mathlib.Core.Logic.{◌⊎◌, inl, inr, ⊎_map, ◌↔◌}
 use mathlib.Core.Path.{◌≡◌, refl, ap}
 use Prim.Native.Nat.{ℕ, ◌<◌, ◌≤◌}
 use lib.Dec.{ltb, eqb}
-use borrow.Author.Tests.{ltb-true, ltb-false, eqb-true, eqb-false, lt-ltb, le-ltb, eq-eqb, ne_eqb, not_true, not-false}
+use borrow.Author.Tests.{ltb-true, ltb-false, eqb-true, eqb-false, lt-ltb, le-ltb, eq-eqb, ne_eqb, not-true, not-false}
 use Rattle.terms.specs.Choice.{when, both, either}
 
 pub when_true : {A : Type 0} {b : Bool} (x y : A) → b ≡ true → when b x y ≡ x
@@ -51,7 +51,7 @@ module _ (m n : ℕ) where
   less_false = (ltb-false m n, le-ltb m n)
 
   pub differ_true : (not (eqb m n) ≡ true) ↔ (m ≡ n → ⊥)
-  differ_true = ((λ e. eqb-false m n (not_true _ e)), (λ h. ap not (ne_eqb m n h)))
+  differ_true = ((λ e. eqb-false m n (not-true _ e)), (λ h. ap not (ne_eqb m n h)))
 
   pub differ_false : (not (eqb m n) ≡ false) ↔ (m ≡ n)
   differ_false = ((λ e. eqb-true m n (not-false _ e)), (λ h. ap not (eq-eqb m n h)))

@@ -5,7 +5,7 @@ use Prim.Native.Nat.{◌-◌}
 use native.Mathlib.Omega.{arith}
 use lib.ListN.{length, drop}
 use borrow.Author.Rules.{rules}
-use borrow.Author.Tests.{not_true, not-false}
+use borrow.Author.Tests.{not-true, not-false}
 use Rattle.terms.proofs.Refusals.{both_failed, both_passed}
 use Rattle.cases.specs.Cases.{starts_with, begin}
 use Rattle.cases.proofs.Places.{words_past, words_over, words_here, words_later}
@@ -19,7 +19,7 @@ abbrev decreases-loop : tie.decreases-loop
 decreases-loop line at words fresh place₀ i₀ place i = length words - i
 
 returns : tie.Need-returns invariant-loop decreases-loop
-returns c = both_failed _ _ (not_true _ c.if1.true)
+returns c = both_failed _ _ (not-true _ c.if1.true)
 
 loop-holds : tie.Need-loop-init invariant-loop decreases-loop
 loop-holds c = both_passed _ _ _ (not-false _ c.if1.false) refl

@@ -3,7 +3,7 @@
 use native.Mathlib.Omega.{arith}
 use lib.ListN.{length-drop}
 use borrow.Author.Rules.{rules}
-use borrow.Author.Tests.{not_true, not-false}
+use borrow.Author.Tests.{not-true, not-false}
 use Rattle.terms.proofs.Refusals.{answered}
 use Rattle.terms.proofs.Tests.{both_true}
 use Rattle.cases.proofs.Places.{words_fit, behind_words, behind_none}
@@ -16,7 +16,7 @@ begin-requires c κs = search rules
 returns : tie.Need-returns
 returns c =
     let a = c.before.before.before.before.args in
-    behind_none a.fresh a.line.now a.words.now a.at (answered _ _ _ c.before.begin.ensures (not_true _ c.if1.true))
+    behind_none a.fresh a.line.now a.words.now a.at (answered _ _ _ c.before.begin.ensures (not-true _ c.if1.true))
 
 add-result : tie.Need-overflow-add-result
 add-result c =

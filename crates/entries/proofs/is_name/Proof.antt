@@ -5,7 +5,7 @@ use Prim.Native.Nat.{◌-◌}
 use native.Mathlib.Omega.{arith}
 use lib.ListN.{length, drop}
 use borrow.Author.Rules.{rules}
-use borrow.Author.Tests.{not_true, not-false}
+use borrow.Author.Tests.{not-true, not-false}
 use Rattle.terms.proofs.Refusals.{answered}
 use Rattle.entries.specs.Entries.{is_name}
 use Rattle.entries.proofs.Texts.{name_past, name_here, name_later}
@@ -29,7 +29,7 @@ may-be-named-requires c κs = search rules
 
 returns : tie.Need-returns invariant-loop decreases-loop
 returns c =
-    name_here _ _ c.before.before.before.loop-test.true (answered _ _ _ c.before.may-be-named.ensures (not_true _ c.if1.true))
+    name_here _ _ c.before.before.before.loop-test.true (answered _ _ _ c.before.may-be-named.ensures (not-true _ c.if1.true))
     ∙ c.before.before.before.before.loop.invariant
 
 add_at : tie.Need-overflow-add-at invariant-loop decreases-loop

@@ -6,7 +6,7 @@ use mathlib.Core.Path.{◌≡◌, refl, sym, ◌∙◌}
 use Prim.Native.Nat.{ℕ, ◌+◌, ◌-◌, ◌≤◌}
 use native.Mathlib.Omega.{arith}
 use borrow.Author.Rules.{rules}
-use borrow.Author.Tests.{not_true, not-false}
+use borrow.Author.Tests.{not-true, not-false}
 use Rattle.packing.specs.Filling.{at_first, filled_to}
 use Rattle.load.specs.declared.Load.{Load}
 use Rattle.place.specs.declared.Place.{Place}
@@ -50,7 +50,7 @@ returns c =
     let start = bit.before.before.before in
     alone start.args.packing start.args.load start.args.image.now start.args.place bit.bit.result bit.bit.ensures
     with.with.result onward.onward.result with.with.ensures onward.onward.ensures
-    (sym c.before.goes_on.ensures ∙ not_true _ c.if1.true)
+    (sym c.before.goes_on.ensures ∙ not-true _ c.if1.true)
 
 loop-holds : tie.Need-loop-init invariant-loop decreases-loop
 unfolding filled_to
@@ -144,7 +144,7 @@ returns-3 c =
     let here = bit.before.before in
     let most = here.before.before.before.before.before.before in
     bit_misfits _ _ _ _ here.loop.n most.most.result _ _ (so_far here) bit.bit2.result bit.bit2.ensures
-    (omega (arith, bit.before.loop-test.true)) most.most.ensures (sym fits.fits2.ensures ∙ not_true _ c.if2.true)
+    (omega (arith, bit.before.loop-test.true)) most.most.ensures (sym fits.fits2.ensures ∙ not-true _ c.if2.true)
 
 returns-4 : tie.Need-returns-4 invariant-loop decreases-loop
 returns-4 c =
@@ -157,7 +157,7 @@ returns-4 c =
     run_over _ _ _ _ here.loop.n most.most.result _ _ (so_far here) bit.bit2.result bit.bit2.ensures
     (omega (arith, bit.before.loop-test.true)) most.most.ensures with.with2.result onward.onward2.result
     (sym fits.fits2.ensures ∙ not-false _ with.before.if2.false) with.with2.ensures onward.onward2.ensures
-    (sym c.before.goes-on2.ensures ∙ not_true _ c.if3.true)
+    (sym c.before.goes-on2.ensures ∙ not-true _ c.if3.true)
 
 pub filled-spec : {M : Type 1} → statement M
 filled-spec =

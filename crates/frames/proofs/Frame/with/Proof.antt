@@ -2,7 +2,7 @@
 -- Assumes nothing.
 use mathlib.Core.Path.{sym, ◌∙◌}
 use native.Mathlib.Omega.{arith}
-use borrow.Author.Tests.{not_true, not-false}
+use borrow.Author.Tests.{not-true, not-false}
 use Rattle.terms.proofs.Tests.{when_true, when_false}
 use Rattle.frames.specs.Frames.{with}
 use Rattle.frames.proofs.Spells.{fits_room}
@@ -15,7 +15,7 @@ fits-requires c κs = search rules
 
 returns : tie.Need-returns
 unfolding with
-returns c = sym (when_false _ _ (sym c.before.fits2.ensures ∙ not_true _ c.if1.true))
+returns c = sym (when_false _ _ (sym c.before.fits2.ensures ∙ not-true _ c.if1.true))
 
 lows-of-requires : tie.Need-lows-of-requires
 lows-of-requires c κs = search rules
