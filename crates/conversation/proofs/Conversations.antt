@@ -15,7 +15,6 @@ use Rattle.units.specs.Units.{longs_in}
 use Rattle.units.specs.declared.Seen.TheVariants.{Silence}
 use Rattle.load.specs.Load.{load_of}
 use Rattle.load.specs.declared.Load.{Load}
-use Rattle.load.proofs.Exactly.{load_taken}
 use Rattle.load.proofs.Facts.{Good, Known}
 use Rattle.follow.specs.Follow.{opened, after_ram}
 use Rattle.place.specs.Phases.{places}
@@ -33,7 +32,7 @@ use Rattle.listener.specs.declared.Event.{Event}
 use Rattle.listener.specs.declared.Event.TheVariants.{Nothing, Program, Verify, Launch}
 use Rattle.listener.specs.declared.Listener.{Listener}
 use Rattle.chip.specs.Work.{worked, went, done}
-use Rattle.conversation.specs.Conversation.{Reach, start, Success, EveryConversation}
+use Rattle.conversation.specs.Conversation.{Reach, start, Success}
 use Rattle.conversation.specs.Final.{AllBytes, final_ram, ram_after, eeprom_after, chip_ending, pulses_after}
 use Rattle.conversation.proofs.Closing.{acknowledgement, programs_well, verifies_well}
 use Rattle.conversation.proofs.FinalRam.{final_length, final_start}
@@ -168,8 +167,9 @@ module _ (image : List ℕ) (threshold : ℕ) (ram eeprom : List ℕ) where
       eeprom_left = refl;
     }
 
--- By the command.
-success : (command : ℕ) (image : List ℕ) (threshold : ℕ) (ram eeprom : List ℕ) → Known command image
+-- For every load that a start takes, every threshold and all memories of their size. An image that is sent is a list of bytes; for command
+-- 0 nothing is asked of it.
+pub success : (command : ℕ) (image : List ℕ) (threshold : ℕ) (ram eeprom : List ℕ) → Known command image
     → ((command ≡ 0 → ⊥) → AllBytes image) → length ram ≡ 32768 → length eeprom ≡ 32768
     → Success command image threshold ram eeprom
 success zero image threshold ram eeprom k all r e = success_0 image threshold ram eeprom
@@ -180,7 +180,3 @@ success (suc (suc zero)) image threshold ram eeprom k all r e =
 success (suc (suc (suc zero))) image threshold ram eeprom k all r e =
     success_3 image threshold ram eeprom (k.good (omega arith)) (all (omega arith)) r e
 success (suc (suc (suc (suc n)))) image threshold ram eeprom k all r e = absurd (omega (arith, k.known))
-
-pub every_conversation : EveryConversation
-every_conversation command image threshold ram eeprom e =
-    success command image threshold ram eeprom ((load_taken command image (load_of command image)).0 e).0

@@ -12,11 +12,10 @@ use borrow.Author.Tests.{lt-ltb, eq-eqb}
 use Rattle.terms.proofs.Tests.{when_true}
 use Rattle.lent.specs.Bytes.{word_at, total}
 use Rattle.lent.proofs.Totals.{total_append, total_zeros}
-use Rattle.load.proofs.Exactly.{load_taken}
 use Rattle.load.proofs.Facts.{Good}
 use Rattle.ram.specs.Ram.{zeroed, flag_at, flag_stored, flagged_below, flagged, finished, sums_to_zero, launches}
 use Rattle.chip.specs.Work.{loaded}
-use Rattle.conversation.specs.Final.{AllBytes, flag, final_ram, FinalSize}
+use Rattle.conversation.specs.Final.{AllBytes, flag, final_ram}
 use Rattle.conversation.proofs.Loading.{stored_at, overlaid, long_stored}
 use Rattle.conversation.proofs.Longs.{long_of}
 
@@ -153,8 +152,3 @@ module _ (image : List ℕ) (good : Good image) where
       ∙ ap (λ (n : ℕ). finished n (overlaid image ram n)) last
       ∙ ap (λ (l : List ℕ). finished (length image) (l ++ drop (length image) ram)) whole
       ∙ image_finished ram e
-
-pub final_size : FinalSize
-final_size command image load e some =
-    let good = ((load_taken command image load).0 e).0.good some in
-    record { above = good.above; inside = good.inside; whole = final_length image good }

@@ -13,6 +13,9 @@ module _ {load : Load} {image : List ℕ} where
   pub counted : {m n : ℕ} {a b : Talk} → m ≡ n → Reach load image m a b → Reach load image n a b
   counted {a = a} {b = b} e r = subst (λ (k : ℕ). Reach load image k a b) e r
 
+  pub ending : {n : ℕ} {a b c : Talk} → b ≡ c → Reach load image n a b → Reach load image n a c
+  ending {n = n} {a = a} e r = subst (λ (x : Talk). Reach load image n a x) e r
+
   pub one : (a b : Talk) → Open a → talked load image a ≡ b → Reach load image 1 a b
   one a b o e = step 0 a b o (subst (λ (x : Talk). Reach load image 0 x b) (sym e) (stay b))
 

@@ -1,15 +1,15 @@
--- A value goes over low bit first, one law for the command, the size and each long: each of its bits is shifted in, and 32 of them are
--- the value.
+-- A value goes over low bit first, one law for the command, the size and each long: after i bits of it the chip holds them above the
+-- zeros of those to come, and after 32 the value.
 -- Assumes nothing.
 use mathlib.Core.Bool.{Bool, true, false, not}
 use mathlib.Core.List.{List}
 use mathlib.Core.Path.{◌≡◌, refl, sym, ap, ◌∙◌, subst}
-use Prim.Native.Nat.{ℕ, ◌+◌, ◌^◌, ◌<◌, ◌≤◌}
-use native.Mathlib.Nat.{add-zero}
-use native.Mathlib.Numerals.{add-one}
+use Prim.Native.Nat.{ℕ, suc, ◌+◌, ◌-◌, ◌*◌, ◌^◌, ◌/◌, ◌%◌, ◌<◌, ◌≤◌}
+use native.Mathlib.Nat.{add-zero, mul-one, mod-one, mod-eq_of_lt}
 use native.Mathlib.Omega.{arith}
 use lib.Dec.{ltb}
-use borrow.Author.Tests.{lt-ltb}
+use lib.Pow.{mod-pow-add}
+use borrow.Author.Tests.{lt-ltb, eqb-true, eqb-false}
 use Rattle.terms.specs.Choice.{when}
 use Rattle.terms.proofs.Tests.{when_true, when_false}
 use Rattle.units.specs.declared.Seen.TheVariants.{Silence}
@@ -23,29 +23,45 @@ use Rattle.place.specs.declared.Place.{Place}
 use Rattle.eeprom.specs.declared.Fault.TheVariants.{None}
 use Rattle.phases.specs.declared.Phase.{Phase}
 use Rattle.listener.specs.Heard.{in_phase, quiet, heard}
-use Rattle.line.specs.LowBitFirst.{shifted_in}
 use Rattle.line.specs.Reading.{grown}
-use Rattle.line.proofs.LowBitFirst.{low_bit_first, value_spelled}
 use Rattle.listener.specs.declared.Event.{Event}
 use Rattle.listener.specs.declared.Event.TheVariants.{Nothing}
 use Rattle.listener.specs.declared.Heard.{Heard}
 use Rattle.listener.specs.declared.Listener.{Listener}
 use Rattle.chip.specs.Work.{worked, went, done}
+use Rattle.history.proofs.Spelling.{grown_above}
 use Rattle.conversation.specs.Conversation.{Talk, waits, Reach}
 use Rattle.conversation.proofs.Computed.{converses}
 use Rattle.conversation.proofs.Pulses.{talk, hearing, pulse, onward_within, next_single}
 use Rattle.conversation.proofs.Reaching.{and_then, rounds}
 
--- What is held after some bits of a value.
-abbrev held : ℕ → ℕ → ℕ
-held x = shifted_in 0 (value_bit x)
+-- A bit more of a value.
+module _ (x i : ℕ) where
+  bit-more-at : (b : Bool) → value_bit x i ≡ b → x % 2 ^ i + when b (2 ^ i) 0 ≡ x / 2 ^ i % 2 * 2 ^ i + x % 2 ^ i
+  unfolding when
+  bit-more-at true e =
+      let one : x / 2 ^ i % 2 ≡ 1 = eqb-true _ _ e in
+      rw one (omega arith)
+  bit-more-at false e =
+      let other : x / 2 ^ i % 2 ≡ 1 → ⊥ = eqb-false _ _ e in
+      let none : x / 2 ^ i % 2 ≡ 0 = omega (arith, other) in
+      rw none (omega arith)
 
-held_more : (x i : ℕ) → grown (held x i) (value_bit x i) ≡ held x (i + 1)
-unfolding shifted_in
-held_more x i = ap (held x) (sym (add-one i))
+  bit_more : x % 2 ^ i + when (value_bit x i) (2 ^ i) 0 ≡ x % 2 ^ (i + 1)
+  bit_more =
+      let next : 1 + i ≡ i + 1 = omega arith in
+      bit-more-at (value_bit x i) refl ∙ sym (mod-pow-add x 1 i) ∙ ap (λ (n : ℕ). x % 2 ^ n) next
 
-held_all : (x : ℕ) → x < 2 ^ 32 → held x 32 ≡ x
-held_all x small = low_bit_first 0 (value_bit x) (omega arith) ∙ value_spelled x small
+  -- What is held after i bits.
+  abbrev held : ℕ
+  held = x % 2 ^ i * 2 ^ (32 - i)
+
+  pub held_more : i < 32 → grown held (value_bit x i) ≡ x % 2 ^ (i + 1) * 2 ^ (31 - i)
+  held_more h =
+      let places : i + (31 - i) ≡ 31 = omega arith in
+      let zeros : 32 - i ≡ suc (31 - i) = omega arith in
+      grown_above (x % 2 ^ i) i (31 - i) held places (ap (λ (n : ℕ). x % 2 ^ i * 2 ^ n) zeros) (value_bit x i)
+      ∙ ap (λ (n : ℕ). n * 2 ^ (31 - i)) bit_more
 
 -- The host sends a value from an index of a phase on, and heeds no reply to it.
 pub record Sends (load : Load) (image : List ℕ) (phase : host_phase.Phase) (from x : ℕ) : Type 0 where
@@ -70,13 +86,14 @@ module _ (load : Load) (image : List ℕ) (phase : host_phase.Phase) (from x : �
   bit i h =
       let more : from + i + 1 < places load phase = let fits = sends.fits in omega arith in
       let index : from + i + 1 ≡ from + (i + 1) = omega arith in
+      let zeros : 31 - i ≡ 32 - (i + 1) = omega arith in
       pulse load image (at i) (value_bit x i) _ (in_phase l (reading (i + 1) (held x (i + 1)))) Nothing Silence ram eeprom
       sends.going (receives.going phase i (held x i) ∙ ap not sends.aloud) (sends.bits i (omega arith))
       (next_single load phase (from + i) Silence (sends.unseen (from + i)) ∙ onward_within load phase (from + i) more
       ∙ ap (λ (n : ℕ). record { phase = phase; index = n }) index)
       (receives.hears i (held x i) (value_bit x i)
       ∙ when_true _ _ (lt-ltb _ _ h)
-      ∙ ap (λ (v : ℕ). quiet l (reading (i + 1) v)) (held_more x i))
+      ∙ ap (λ (v : ℕ). quiet l (reading (i + 1) v)) (held_more x i (omega arith) ∙ ap (λ (n : ℕ). x % 2 ^ (i + 1) * 2 ^ n) zeros))
       refl
 
   pub value : (place : Place) (after : Listener) (event : Event) (ram' eeprom' : List ℕ) → x < 2 ^ 32
@@ -85,14 +102,16 @@ module _ (load : Load) (image : List ℕ) (phase : host_phase.Phase) (from x : �
       → Reach load image 32
       (talk (record { phase = phase; index = from }) (in_phase l (reading 0 0)) ram eeprom Silence)
       (talk place after ram' eeprom' Silence)
-  unfolding shifted_in
   value place after event ram' eeprom' small p r w =
+      let none : held x 0 ≡ 0 = ap (λ (n : ℕ). n * 4294967296) (mod-one x) in
+      let whole : grown (held x 31) (value_bit x 31) ≡ x = held_more x 31 (omega arith) ∙ mul-one _ ∙ mod-eq_of_lt small in
       let start : at 0 ≡ talk (record { phase = phase; index = from }) (in_phase l (reading 0 0)) ram eeprom Silence =
-      ap (λ (n : ℕ). talk (record { phase = phase; index = n }) (in_phase l (reading 0 0)) ram eeprom Silence) (add-zero from) in
+      ap (λ (n : ℕ). talk (record { phase = phase; index = n }) (in_phase l (reading 0 (held x 0))) ram eeprom Silence) (add-zero from)
+      ∙ ap (λ (v : ℕ). talk (record { phase = phase; index = from }) (in_phase l (reading 0 v)) ram eeprom Silence) none in
       subst (λ (a : Talk). Reach load image 32 a (talk place after ram' eeprom' Silence)) start
       (and_then (rounds 1 at 31 bit)
       (pulse load image (at 31) (value_bit x 31) place after event Silence ram' eeprom'
       sends.going (receives.going phase 31 (held x 31) ∙ ap not sends.aloud) (sends.bits 31 (omega arith))
       (next_single load phase (from + 31) Silence (sends.unseen (from + 31)) ∙ p)
-      (receives.hears 31 (held x 31) (value_bit x 31) ∙ when_false _ _ refl ∙ ap received (held_all x small) ∙ r)
+      (receives.hears 31 (held x 31) (value_bit x 31) ∙ when_false _ _ refl ∙ ap received whole ∙ r)
       w))

@@ -2,20 +2,18 @@
 -- that is read, no time-out is met, and the EEPROM has no fault.
 -- Assumes nothing.
 use Rattle.std.specs.Prelude.{Bool, true, false, not, List, ◌≡◌, ℕ, ◌+◌, length}
-use Rattle.terms.specs.Refusals.{taken}
 use Rattle.units.specs.declared.Seen.{Seen}
 use Rattle.units.specs.declared.Seen.TheVariants.{Silence}
-use Rattle.load.specs.Load.{accepted, load_of}
+use Rattle.load.specs.Load.{load_of}
 use Rattle.load.specs.declared.Load.{Load}
 use Rattle.bits.specs.Bits.{sent_bit}
 use Rattle.follow.specs.Follow.{opened, next}
-use Rattle.place.specs.Endings as host_end
 use Rattle.place.specs.Phases as host
+use Rattle.place.specs.declared.Ending.TheVariants.{Done}
 use Rattle.place.specs.declared.Phase as place
 use Rattle.place.specs.declared.Phase.TheVariants as at
 use Rattle.place.specs.declared.Place.{Place}
 use Rattle.eeprom.specs.declared.Fault.TheVariants.{None}
-use Rattle.phases.specs.Endings as chip_end
 use Rattle.phases.specs.Phases as chip
 use Rattle.phases.specs.declared.Phase.{Phase}
 use Rattle.phases.specs.declared.Phase.TheVariants as to
@@ -24,7 +22,7 @@ use Rattle.listener.specs.Settled.{settled}
 use Rattle.listener.specs.declared.Heard.{Heard}
 use Rattle.listener.specs.declared.Listener.{Listener}
 use Rattle.chip.specs.Work.{Worked, done}
-use Rattle.conversation.specs.Final.{AllBytes, ram_after, eeprom_after, chip_ending, pulses_after}
+use Rattle.conversation.specs.Final.{ram_after, eeprom_after, chip_ending, pulses_after}
 
 -- Where both stand between two pulses: the host's place, the chip with its memories, and what the chip replied to the pulse before.
 pub record Talk : Type 0 where
@@ -116,15 +114,7 @@ start threshold ram eeprom = record {
 pub record Success (command : ℕ) (image : List ℕ) (threshold : ℕ) (ram eeprom : List ℕ) : Type 0 where
   pub end : Talk
   pub reached : Reach (load_of command image) image (pulses_after command (length image)) (start threshold ram eeprom) end
-  pub host : host_end.end_at end.place.phase ≡ host_end.ended 0
-  pub chip : chip_end.end_at end.listener.phase ≡ chip_ending command
+  pub host : end.place ≡ opened (at.Ended Done)
+  pub chip : end.listener.phase ≡ to.Ended (chip_ending command)
   pub ram_left : end.ram ≡ ram_after command image ram
   pub eeprom_left : end.eeprom ≡ eeprom_after command image eeprom
-
--- For every command and image that a load's start takes, every threshold, and all memories of their size. An image that is sent is a list
--- of bytes; for command 0 nothing is asked of it.
-abbrev pub EveryConversation : Type 0
-EveryConversation =
-    (command : ℕ) (image : List ℕ) (threshold : ℕ) (ram eeprom : List ℕ) → accepted command image ≡ taken (load_of command image)
-    → ((command ≡ 0 → ⊥) → AllBytes image) → length ram ≡ 32768 → length eeprom ≡ 32768
-    → Success command image threshold ram eeprom

@@ -2,8 +2,8 @@
 -- Assumes nothing.
 use mathlib.Core.Bool.{Bool, true, false}
 use mathlib.Core.List.{List, [], ◌∷◌, ◌++◌, map}
-use mathlib.Core.Path.{◌≡◌, refl, sym, ap, ◌∙◌, subst}
-use Prim.Native.Nat.{ℕ, zero, suc, ◌+◌, ◌-◌, ◌*◌, ◌/◌, ◌≤◌, ◌<◌}
+use mathlib.Core.Path.{◌≡◌, refl, sym, ap, ◌∙◌}
+use Prim.Native.Nat.{ℕ, zero, suc, ◌+◌, ◌-◌, ◌*◌, ◌/◌, ◌≤◌}
 use native.Mathlib.Nat.{suc-mul}
 use native.Mathlib.Omega.{arith}
 use lib.Dec.{eqb}
@@ -244,7 +244,6 @@ module _ (s : Settings) (command : ℕ) (image : List ℕ) where
     exact =
         let all = counted command image in
         record {
-          some = subst (λ (l : List Mark). 0 < length l) (sym are) (some_pulse s marks closing);
           pulses = ap length are ∙ pulses_so;
           counted_ones =
               ap ones are ∙ ones_flat (parts command image) (whole command image) 0 all

@@ -62,6 +62,16 @@ whole_long x n sized loaded h s l false true =
 whole_long x n sized loaded h s l false false =
     omega (arith, bits_long 250 (ones_from draw 1 250) (ones_most draw 1 250), bits_long 32 x h, s, l)
 
+fewest : (a b : Bool) (n : ℕ) → 0 < when a 800 (when b (836 + 8 * n) (844 + 8 * n))
+unfolding when
+fewest true b n = omega arith
+fewest false true n = omega arith
+fewest false false n = omega arith
+
+some-pulses : (command n : ℕ) → 0 < pulses command n
+unfolding pulses
+some-pulses command n = fewest (eqb command 0) (eqb command 1) n
+
 plan_long : (s : Settings) (command : ℕ) (image : List ℕ) → sum_of pulses_of (planned command image) ≡ pulses command (length image)
 unfolding pulses
 plan_long s command image =
@@ -158,19 +168,22 @@ module _ (t h p command : ℕ) (image : List ℕ) (host : Host) (ram eeprom : Li
       ap (λ (x : State). x.host) (next n (omega (arith, i)) (hosts n (omega (arith, i)))) ∙ ap sends.hosts (add-one n)
 
   -- The last call.
+  some : 0 < many
+  some = omega (arith, many_is, some-pulses command (length image))
+
   abbrev n : ℕ
   n = many - 1
 
   is : suc n ≡ many
-  is = omega (arith, exact.some)
+  is = omega (arith, some)
 
   ends : after measured image many begin
       ≡ met (after measured image n begin).chip (sent_at n) (listened measured (after measured image n begin) (sent_at n))
-  ends = ap (λ (k : ℕ). after measured image k begin) (sym is) ∙ next n (omega (arith, exact.some)) (hosts n (omega (arith, exact.some)))
+  ends = ap (λ (k : ℕ). after measured image k begin) (sym is) ∙ next n (omega (arith, some)) (hosts n (omega (arith, some)))
 
   last_edge : session.at figures command image heard (2 * n + 1) ≡ time figures command image measured begin
   last_edge =
-      let odd : 2 * n + 1 ≡ 2 * many - 1 = omega (arith, exact.some) in
+      let odd : 2 * n + 1 ≡ 2 * many - 1 = omega (arith, some) in
       ap (session.at figures command image heard) odd ∙ exact.ends
 
   run : PlannedRun figures command image measured begin

@@ -44,8 +44,7 @@ module _ (s : Settings) (command : ℕ) (image : List ℕ) (seen : ℕ → Seen)
   before f q = up_to f (phases_of (planned command image)) q
 
   pub record Exact : Type 0 where
-    -- The session's pulses, ones and zeros. There is a pulse, so that `2 * last - 1` isn't cut at 0.
-    pub some : 0 < last
+    -- The session's pulses, ones and zeros.
     pub pulses : last ≡ sum_of pulses_of (planned command image)
     pub counted_ones : ones (session s command (length image) (λ n. image) seen).pulses ≡ sum_of (λ (c : Counts). c.ones) (planned command image)
     pub counted_zeros : zeros (session s command (length image) (λ n. image) seen).pulses ≡ sum_of (λ (c : Counts). c.zeros) (planned command image)

@@ -11,15 +11,13 @@ use lib.Dec.{eqb}
 use borrow.Author.Tests.{eqb-true, eqb-false}
 use Rattle.terms.specs.Refusals.{taken}
 use Rattle.terms.proofs.Refusals.{taken_exactly}
-use Rattle.phases.specs.Endings.{End, listening, launched_from_download, launched_from_eeprom, shut_down, off_chart, end_at}
-use Rattle.phases.specs.declared.Ending.TheVariants.{Launched, Booted, Shut, Off}
-use Rattle.phases.specs.declared.Phase.{Phase}
-use Rattle.phases.specs.declared.Phase.TheVariants.{First, Second, Handshake, Answer, Rest, Command, Size, Long, Align, Ended}
+use Rattle.phases.specs.declared.Ending.TheVariants.{Launched}
+use Rattle.phases.specs.declared.Phase.TheVariants.{Ended}
 use Rattle.eeprom.specs.declared.Fault.{Fault}
 use Rattle.chip.specs.Step.{fresh, start_rows, chip_start}
 use Rattle.chip.specs.declared.Chip.{Chip}
 use Rattle.chip.proofs.Steps.{step_taken}
-use Rattle.history.specs.Download.{command_of, Download, EveryLaunch}
+use Rattle.history.specs.Download.{command_of, Download}
 use Rattle.history.specs.History.{State, Played, started, stepped}
 use Rattle.history.proofs.Known.{Launching, Known, KnownOf}
 use Rattle.history.proofs.Next.{next}
@@ -28,21 +26,19 @@ pub start_fresh : (ram eeprom : List ℕ) (fault : Fault) (c : Chip) → chip_st
 unfolding chip_start
 start_fresh ram eeprom fault c e = ((taken_exactly (fresh fault) c (start_rows ram eeprom fault)).0 e).1
 
-module _ (wait low : ℕ → ℕ) (begin : State) where
-  of_equals : (n : ℕ) (c d : Chip) (ram ram' : List ℕ) → d ≡ c → ram' ≡ ram → KnownOf wait low begin n ram c.receiver.listener
-      → KnownOf wait low begin n ram' d.receiver.listener
+module _ (wait low : ℕ → ℕ) where
+  of_equals : (n : ℕ) (c d : Chip) (ram ram' : List ℕ) → d ≡ c → ram' ≡ ram → KnownOf wait low n ram c.receiver.listener
+      → KnownOf wait low n ram' d.receiver.listener
   of_equals n c d ram ram' e p k =
-      subst (λ (x : Chip). KnownOf wait low begin n ram' x.receiver.listener) (sym e)
-      (subst (λ (x : List ℕ). KnownOf wait low begin n x c.receiver.listener) (sym p) k)
+      subst (λ (x : Chip). KnownOf wait low n ram' x.receiver.listener) (sym e)
+      (subst (λ (x : List ℕ). KnownOf wait low n x c.receiver.listener) (sym p) k)
 
-  known : (n : ℕ) (s : State) → Played wait low begin n s → KnownOf wait low begin n s.ram s.chip.receiver.listener
-  known _ _ (started fault e) =
-      subst (λ (x : Chip). KnownOf wait low begin 0 begin.ram x.receiver.listener)
-      (sym (start_fresh begin.ram begin.eeprom fault begin.chip e))
-      refl
+  known : (n : ℕ) (s : State) → Played wait low n s → KnownOf wait low n s.ram s.chip.receiver.listener
+  known _ _ (started ram eeprom fault c e) =
+      subst (λ (x : Chip). KnownOf wait low 0 ram x.receiver.listener) (sym (start_fresh ram eeprom fault c e)) refl
   known _ _ (stepped n s r ram eeprom p e) =
       let left = step_taken s.chip s.ram s.eeprom (wait (n + 1)) (low (n + 1)) r ram eeprom e in
-      of_equals (n + 1) _ r.chip _ ram left.chip_after left.ram_after_lem (next wait low begin n s p (known n s p))
+      of_equals (n + 1) _ r.chip _ ram left.chip_after left.ram_after_lem (next wait low n s p (known n s p))
 
   one_or_three : (c : ℕ) (b : Bool) → eqb c 1 ≡ b → c ≡ command_of low → 1 ≤ c → c ≤ 3 → (c ≡ 2 → ⊥) → (command_of low ≡ 1) ⊎ (command_of low ≡ 3)
   one_or_three c true e i least most other = inl (sym i ∙ eqb-true c 1 e)
@@ -51,8 +47,8 @@ module _ (wait low : ℕ → ℕ) (begin : State) where
       let three : c ≡ 3 = omega (arith, least, most, other, more) in
       inr (sym i ∙ three)
 
-  from_download : (n t c : ℕ) (s : State) → Launching wait low begin n s.ram t c → Download wait low begin n s
-  from_download n t c s k =
+  from_download : (n t c : ℕ) → Launching wait low n t c → Download wait low n
+  from_download n t c k =
       let m = k.commanded in
       record {
         pulses = m.pulses;
@@ -61,31 +57,8 @@ module _ (wait low : ℕ → ℕ) (begin : State) where
         checksum = k.acknowledged;
       }
 
--- Of all phases one ends so.
-abbrev Phased : Phase → End → Type 0
-Phased p listening = Unit {0}
-Phased p launched_from_download = p ≡ Ended Launched
-Phased p launched_from_eeprom = Unit {0}
-Phased p shut_down = Unit {0}
-Phased p off_chart = Unit {0}
-
-phased : (p : Phase) → Phased p (end_at p)
-phased First = tt
-phased (Second d) = tt
-phased (Handshake k) = tt
-phased (Answer r) = tt
-phased (Rest r) = tt
-phased (Command i bits) = tt
-phased (Size i bits) = tt
-phased (Long i k bits) = tt
-phased (Align a) = tt
-phased (Ended Launched) = refl
-phased (Ended Booted) = tt
-phased (Ended Shut) = tt
-phased (Ended Off) = tt
-
-pub every_launch : EveryLaunch
-every_launch wait low begin n s p e =
-    let l = s.chip.receiver.listener in
-    from_download wait low begin n l.threshold.0 l.command s
-    (subst (Known wait low begin n s.ram l.threshold.0 l.command) (subst (Phased l.phase) e (phased l.phase)) (known wait low begin n s p))
+  pub launched_from_download : (n : ℕ) (s : State) → Played wait low n s → s.chip.receiver.listener.phase ≡ Ended Launched → Download wait low n
+  launched_from_download n s p e =
+      let l = s.chip.receiver.listener in
+      from_download n l.threshold.0 l.command
+      (subst (Known wait low n s.ram l.threshold.0 l.command) e (known n s p))

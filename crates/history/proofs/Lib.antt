@@ -1,7 +1,6 @@
-pub mod Countdown
-pub mod History
 pub mod Known
 pub mod Later
 pub mod Launched
 pub mod Margins
 pub mod Next
+pub mod Spelling

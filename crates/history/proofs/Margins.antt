@@ -2,7 +2,7 @@
 -- Assumes nothing.
 use mathlib.Core.Bool.{Bool, true, false, true≢false}
 use mathlib.Core.List.{List, [], ◌∷◌}
-use mathlib.Core.Logic.{inl, inr}
+use mathlib.Core.Logic.{◌⊎◌, inl, inr}
 use mathlib.Core.Path.{◌≡◌, refl, sym, subst, ◌∙◌}
 use Prim.Native.Nat.{ℕ, suc, ◌+◌, ◌-◌, ◌≤◌, ◌<◌}
 use native.Mathlib.Nat.{le_refl}
@@ -15,15 +15,11 @@ use Rattle.terms.specs.Choice.{when}
 use Rattle.terms.proofs.Tests.{when_true, when_false}
 use Rattle.line.specs.Reading.{reads, distance_of}
 use Rattle.line.proofs.Distances.{distance_elim}
-use Rattle.countdown.specs.Countdown.{late}
+use Rattle.countdown.specs.Countdown.{late, most_left}
 use Rattle.margins.specs.Margins.{Near, none, at, reads_bit, nearer_one, nearer_zero, with_bit, farthest, nearest_one, nearest_zero, nearest}
 use Rattle.margins.specs.Margins as margins
 use Rattle.margins.specs.declared.Margins.{Margins}
 use Rattle.margins.proofs.Sides.{Sides}
-use Rattle.phases.specs.declared.Phase.{Phase}
-use Rattle.phases.specs.declared.Phase.TheVariants.{First, Second, Handshake, Answer, Rest, Command, Size, Long, Align, Ended}
-use Rattle.listener.specs.Heard.{heard}
-use Rattle.listener.specs.declared.Listener.{Listener}
 use Rattle.receiver.specs.Hears.{hears}
 use Rattle.receiver.specs.declared.Received.{Received}
 use Rattle.receiver.specs.declared.Receiver.{Receiver}
@@ -137,11 +133,11 @@ pulse_holds r wait low l t h =
     (λ f. h))
 
 -- A whole history. A step that was not refused had a record within its ranges.
-module _ (wait low : ℕ → ℕ) (begin : State) where
-  margins_hold : (n : ℕ) (s : State) (p : Played wait low begin n s) → Holds s.chip.receiver.margins (distances p)
+module _ (wait low : ℕ → ℕ) where
+  margins_hold : (n : ℕ) (s : State) (p : Played wait low n s) → Holds s.chip.receiver.margins (distances p)
   unfolding distances nearest_one nearest_zero when
-  margins_hold _ _ (started fault e) =
-      subst (λ (x : Chip). Holds x.receiver.margins (record { ones = []; zeros = [] })) (sym (start_fresh begin.ram begin.eeprom fault begin.chip e))
+  margins_hold _ _ (started ram eeprom fault c e) =
+      subst (λ (x : Chip). Holds x.receiver.margins (record { ones = []; zeros = [] })) (sym (start_fresh ram eeprom fault c e))
       (record { one = refl; zero = refl })
   margins_hold _ _ (stepped n s r ram eeprom p e) =
       let step = step_taken s.chip s.ram s.eeprom (wait (n + 1)) (low (n + 1)) r ram eeprom e in
@@ -149,22 +145,8 @@ module _ (wait low : ℕ → ℕ) (begin : State) where
       subst (λ (x : Chip). Holds x.receiver.margins (with_pulse s.chip.receiver (wait (n + 1)) (low (n + 1)) (distances p))) (sym step.chip_after)
       (pulse_holds s.chip.receiver (wait (n + 1)) (low (n + 1)) (distances p) before.within (margins_hold n s p))
 
--- Where no bit is read the low counts by its length, or not at all.
-unread : (l : Listener) (phase : Phase) (low : ℕ) → reads_bit phase ≡ false → heard l phase low true ≡ heard l phase low false
-unread l First low e = refl
-unread l (Second d) low e = refl
-unread l (Handshake k) low e = absurd (true≢false e)
-unread l (Answer r) low e = refl
-unread l (Rest r) low e = refl
-unread l (Command n bits) low e = absurd (true≢false e)
-unread l (Size n bits) low e = absurd (true≢false e)
-unread l (Long n k bits) low e = absurd (true≢false e)
-unread l (Align a) low e = absurd (true≢false e)
-unread l (Ended x) low e = refl
-
 pub every_margin : EveryMargin
 every_margin = record {
-  one = λ wait low begin n s p. (margins_hold wait low begin n s p).one;
-  zero = λ wait low begin n s p. (margins_hold wait low begin n s p).zero;
-  unread = unread;
+  one = λ wait low n s p. (margins_hold wait low n s p).one;
+  zero = λ wait low n s p. (margins_hold wait low n s p).zero;
 }

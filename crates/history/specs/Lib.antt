@@ -1,4 +1,3 @@
-pub mod Countdown
 pub mod Download
 pub mod History
 pub mod Margins

@@ -5,9 +5,6 @@ use Rattle.terms.specs.Choice.{when}
 use Rattle.line.specs.Reading.{reads, distance_of}
 use Rattle.countdown.specs.Countdown.{late}
 use Rattle.margins.specs.Margins.{Near, none, at, reads_bit, nearest}
-use Rattle.phases.specs.declared.Phase.{Phase}
-use Rattle.listener.specs.Heard.{heard}
-use Rattle.listener.specs.declared.Listener.{Listener}
 use Rattle.receiver.specs.declared.Receiver.{Receiver}
 use Rattle.history.specs.History.{State, Played, started, stepped}
 
@@ -28,8 +25,8 @@ with_pulse r wait low l =
     (when (reads_bit r.listener.phase) (with_low (reads r.listener.threshold.0 low) (distance_of r.listener.threshold.0 low) l) l)
 
 -- Those of a whole history.
-unfoldable pub distances : {wait low : ℕ → ℕ} {begin : State} {n : ℕ} {s : State} → Played wait low begin n s → Distances
-distances (started fault e) = record { ones = []; zeros = [] }
+unfoldable pub distances : {wait low : ℕ → ℕ} {n : ℕ} {s : State} → Played wait low n s → Distances
+distances (started ram eeprom fault c e) = record { ones = []; zeros = [] }
 distances {wait} {low} (stepped n s r ram eeprom p e) = with_pulse s.chip.receiver (wait (n + 1)) (low (n + 1)) (distances p)
 
 -- A distance is one of these.
@@ -50,9 +47,7 @@ NearestOf l (at d) = Among d l × NoneNearer d l
 -- After any history from a fresh chip the record tells the nearest low of those that were read on each side, and none exactly where none
 -- was.
 pub record EveryMargin : Type 0 where
-  pub one : (wait low : ℕ → ℕ) (begin : State) (n : ℕ) (s : State) (p : Played wait low begin n s)
+  pub one : (wait low : ℕ → ℕ) (n : ℕ) (s : State) (p : Played wait low n s)
       → NearestOf (distances p).ones (nearest s.chip.receiver.margins).one
-  pub zero : (wait low : ℕ → ℕ) (begin : State) (n : ℕ) (s : State) (p : Played wait low begin n s)
+  pub zero : (wait low : ℕ → ℕ) (n : ℕ) (s : State) (p : Played wait low n s)
       → NearestOf (distances p).zeros (nearest s.chip.receiver.margins).zero
-  -- Where a low is not counted, what it would read as makes no difference to the chip.
-  pub unread : (l : Listener) (phase : Phase) (low : ℕ) → reads_bit phase ≡ false → heard l phase low true ≡ heard l phase low false

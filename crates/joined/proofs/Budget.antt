@@ -2,9 +2,8 @@
 -- Assumes nothing.
 use mathlib.Core.Bool.{Bool, true, false}
 use mathlib.Core.List.{List}
-use mathlib.Core.Path.{◌≡◌, refl, sym, ap, ◌∙◌, subst}
+use mathlib.Core.Path.{◌≡◌, refl, sym, ◌∙◌, subst}
 use Prim.Native.Nat.{ℕ, zero, suc, ◌+◌, ◌≤◌, ◌<◌}
-use native.Mathlib.Nat.{zero-div}
 use native.Mathlib.Numerals.{add-one}
 use native.Mathlib.Omega.{arith}
 use Rattle.terms.proofs.Tests.{differ_false}
@@ -21,7 +20,7 @@ use Rattle.chip.specs.Step.{start_rows, chip_start}
 use Rattle.chip.specs.Reached.{started}
 use Rattle.chip.specs.declared.Chip.{Chip}
 use Rattle.eeprom.specs.declared.Fault.{Fault}
-use Rattle.joined.specs.Ends.{after, Unrefused, Ends, EveryRunEnds}
+use Rattle.joined.specs.Ends.{after, Unrefused, Ends}
 use Rattle.joined.specs.Joined.{State, Measuring, pulsed, host_ended, begun}
 use Rattle.joined.specs.Run.{budget}
 use Rattle.joined.proofs.Sound.{Sound, pulsed_sound, pulsed_count, unrefused_here}
@@ -86,26 +85,21 @@ module _ (measured : Measuring) (image : List ℕ) where
       (host_ended s)
       refl)
 
--- From a start that is taken on.
-pub start_sound : (t h p command : ℕ) (image : List ℕ) (host : Host) (ram eeprom : List ℕ) (fault : Fault) (chip : Chip)
-    → host_start t h p command image ≡ taken host → chip_start ram eeprom fault ≡ taken chip → Sound image (begun host chip ram eeprom)
-unfolding chip_start
-start_sound t h p command image host ram eeprom fault chip begins starts =
-    let opened = start_gives t h p command image host begins in
-    let clear = ((taken_exactly _ chip (start_rows ram eeprom fault)).0 starts).0 in
-    record {
-      kept = start_keeps t h p command image host begins;
-      lent = subst (λ (x : Host). other_image x.session.load image ≡ false) (sym opened.0) (lent_again command image image (λ some. refl));
-      reached = started ram eeprom fault chip starts;
-      ram_size = (differ_false _ _).0 clear.0;
-      eeprom_size = (differ_false _ _).0 clear.1.0;
-      rose = sym (zero-div host.settings.p);
-      space = 0;
-      next = ap (λ (x : Host). x.time) opened.0;
-      short = omega arith;
-    }
+  -- From a start that is taken on.
+  module _ (t h p command : ℕ) (host : Host) (begins : host_start t h p command image ≡ taken host) (ram eeprom : List ℕ) (fault : Fault)
+      (chip : Chip) (starts : chip_start ram eeprom fault ≡ taken chip) where
+    pub start_sound : Sound image (begun host chip ram eeprom)
+    unfolding chip_start
+    start_sound =
+        let opened = start_gives t h p command image host begins in
+        let clear = ((taken_exactly _ chip (start_rows ram eeprom fault)).0 starts).0 in
+        record {
+          kept = start_keeps t h p command image host begins;
+          lent = subst (λ (x : Host). other_image x.session.load image ≡ false) (sym opened.0) (lent_again command image image (λ some. refl));
+          reached = started ram eeprom fault chip starts;
+          ram_size = (differ_false _ _).0 clear.0;
+          eeprom_size = (differ_false _ _).0 clear.1.0;
+        }
 
-pub every_run_ends : EveryRunEnds
-every_run_ends measured t h p command image host ram eeprom fault chip begins starts =
-    ends_within measured image budget (begun host chip ram eeprom)
-    (start_sound t h p command image host ram eeprom fault chip begins starts) (omega arith)
+    pub run_ends : Ends measured image budget (begun host chip ram eeprom)
+    run_ends = ends_within budget (begun host chip ram eeprom) start_sound (omega arith)

@@ -18,7 +18,7 @@ use Rattle.eeprom.specs.declared.Fault.{Fault}
 use Rattle.joined.specs.Joined.{rounded_down, host_ended, played, begun}
 use Rattle.joined.specs.Run.{budget, Outcome, outcome, left, finished, from_chip, from_host, run_of, state}
 use Rattle.joined.specs.declared.Joined.{Joined}
-use Rattle.joined.proofs.Budget.{every_run_ends}
+use Rattle.joined.proofs.Budget.{run_ends}
 
 module _ (t h p command : ℕ) (image : List ℕ) (fault : Fault) (l : ℕ) (ram eeprom : List ℕ) where
   pub host_refused : (r : Begun) (n : ℕ) → r ≡ begins.Refused n → told_begun r ≡ host_start t h p command image
@@ -45,7 +45,7 @@ module _ (t h p command : ℕ) (image : List ℕ) (fault : Fault) (l : ℕ) (ram
 
       pub run_ended : ended j.host.session.place.phase ≡ true
       run_ended =
-          let end = every_run_ends (rounded_down p l) t h p command image host ram eeprom fault chip (sym host_taken) (sym chip_taken) in
+          let end = run_ends (rounded_down p l) image t h p command host (sym host_taken) ram eeprom fault chip (sym chip_taken) in
           ap host_ended (u ∙ end.run) ∙ end.ended
 
       pub run_finished : (o : Outcome) → o ≡ outcome j.host j.chip j.rise.0 j.risen

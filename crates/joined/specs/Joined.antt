@@ -43,27 +43,17 @@ waited measured n ticks = when (eqb n 0) 0 (measured (n * 2) ticks)
 abbrev pub lasted : Measuring → ℕ → ℕ → ℕ
 lasted measured n ticks = measured (n * 2 + 1) ticks
 
--- The ticks of the wait before a pulse, from the last rise to its fall, and those of its low, from its fall to its rise. Neither is cut at
--- 0, by `Unrefused` (Ends.antt).
-abbrev pub wait_ticks : State → Sent → ℕ
-wait_ticks s pulse = pulse.fall.0 - s.rise
-
-abbrev pub low_ticks : Sent → ℕ
-low_ticks pulse = pulse.rise.0 - pulse.fall.0
-
--- The loops that the chip counts for them.
-abbrev pub wait_loops : Measuring → State → Sent → ℕ
-wait_loops measured s pulse = waited measured s.host.session.pulses (wait_ticks s pulse)
-
-abbrev pub low_loops : Measuring → State → Sent → ℕ
-low_loops measured s pulse = lasted measured s.host.session.pulses (low_ticks pulse)
-
--- A pulse played to the chip. A chip that has ended stays silent.
+-- A pulse played to the chip: it fell after the last rise, and rose after its fall. A chip that has ended stays silent.
 unfoldable pub listened : Measuring → State → Sent → Left
 listened measured s sent =
     when (chip.ended s.chip.receiver.listener.phase)
     (left (taken (record { chip = s.chip; reply = silence })) s.ram s.eeprom)
-    (chip_step s.chip s.ram s.eeprom (wait_loops measured s sent) (low_loops measured s sent))
+    (chip_step
+    s.chip
+    s.ram
+    s.eeprom
+    (waited measured s.host.session.pulses (sent.fall.0 - s.rise))
+    (lasted measured s.host.session.pulses (sent.rise.0 - sent.fall.0)))
 
 -- The chip's part of an answer; a chip that refused a step would be as it was, and silent.
 abbrev pub replied : Chip → Answer Reply → Reply

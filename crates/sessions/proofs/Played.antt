@@ -22,7 +22,6 @@ use Rattle.units.specs.declared.Seen.{Seen}
 use Rattle.units.specs.declared.Ticks.{Ticks}
 use Rattle.bits.specs.Bits.{sent_bit}
 use Rattle.follow.specs.Follow.{opened, next}
-use Rattle.place.specs.Endings.{end_at}
 use Rattle.place.specs.Phases.{image_pulses, ended}
 use Rattle.range.specs.Ranges.{before}
 use Rattle.place.specs.declared.Phase.TheVariants.{Ended}
@@ -361,7 +360,7 @@ module _ (s : Settings) (load : Load) (size : ℕ) (lent : ℕ → List ℕ) (se
       steps = step_is;
       pulses = pulse_is;
       going = λ n h. (goes n (hosts n) (here n h) h).on;
-      ending = ap (λ (q : Place). end_at q.phase) ends;
+      ending = ap (λ (q : Place). q.phase) ends;
       closed = refuses;
       counted = λ n h. (hosts_at n h).counted;
       counted_ones = λ n h. (hosts_at n h).counted_ones;

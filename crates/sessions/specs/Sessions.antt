@@ -7,8 +7,8 @@ use Rattle.terms.specs.Refusals.{refused, taken}
 use Rattle.lent.specs.Bytes.{total}
 use Rattle.settings.specs.declared.Settings.{Settings}
 use Rattle.units.specs.declared.Seen.{Seen}
-use Rattle.place.specs.Endings as host
 use Rattle.place.specs.Phases.{ended}
+use Rattle.place.specs.declared.Phase.TheVariants.{Ended}
 use Rattle.session.specs.Step.{session_step}
 use Rattle.host.specs.Step.{host_start, host_step}
 use Rattle.host.specs.Time.{tick}
@@ -76,9 +76,9 @@ module _ (settings : Settings) (command size : ℕ) (lent : ℕ → List ℕ) (s
     pub pulses : (n : ℕ) → n < many
         → session_step (hosts n).session (lent n) (seen n)
         ≡ taken (record { bit = (pulse n).bit; silent = (pulse n).silent; session = (hosts (n + 1)).session })
-    -- The record that the last call hands back has ended by the session's number, none before it has, and no call follows.
+    -- The record that the last call hands back has ended as the session does, none before it has, and no call follows.
     pub going : (n : ℕ) → n < many → ended (hosts n).session.place.phase ≡ false
-    pub ending : host.end_at (hosts many).session.place.phase ≡ host.ended (host.number session.ending)
+    pub ending : (hosts many).session.place.phase ≡ Ended session.ending
     pub closed : (image : List ℕ) (s : Seen) → host_step (hosts many) image s ≡ refused 14
     -- Pulses, ones and zeros count what was sent.
     pub counted : (n : ℕ) → n ≤ many → (hosts n).session.pulses ≡ n

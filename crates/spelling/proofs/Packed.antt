@@ -216,4 +216,4 @@ every_byte s image back t byte e q =
     let passed = (taken_exactly (turn_of s image back) t (serial_rows s image back)).0 e in
     let w = within s.load s.place passed.0.0 in
     let there = resumed_in s.load w.loaded s.place (came back) passed.0.1.0 w.stands in
-    (there.short, turn_spells s image (resumed_at s back) there.short byte (ap (λ (x : Turn). x.sent) (sym passed.1) ∙ q))
+    turn_spells s image (resumed_at s back) there.short byte (ap (λ (x : Turn). x.sent) (sym passed.1) ∙ q)

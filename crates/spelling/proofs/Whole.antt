@@ -18,7 +18,6 @@ use Rattle.load.proofs.Exactly.{load_taken}
 use Rattle.load.proofs.Within.{load_within, start_within}
 use Rattle.follow.specs.Follow.{opened}
 use Rattle.follow.proofs.Stands.{Stands, opened_stands}
-use Rattle.place.specs.Endings.{end_at}
 use Rattle.place.specs.Phases.{image_pulses, ended}
 use Rattle.range.specs.Ranges.{before, place_outside}
 use Rattle.place.specs.declared.Phase.TheVariants.{Calibration, Ended}
@@ -288,7 +287,7 @@ module _ (packing : Packing) (load : Load) (lent : ℕ → List ℕ) (back : ℕ
         spells = found.last.runs;
         alike = place_last ∙ sym stepped.there;
         pulses = spelt.0;
-        ending = ap (λ (q : Place). end_at q.phase) (place_last ∙ spelt.1);
+        ending = ap (λ (q : Place). q.phase) (place_last ∙ spelt.1);
         bound = omega (arith, found.last.most, short);
       }
 

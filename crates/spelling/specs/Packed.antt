@@ -1,7 +1,7 @@
 -- 02, "One" and "Seven": what each byte holds. "Pairs go as $F9"; of a run of bits a byte holds the next one or three, and "the last byte of
 -- each holds what is left", or "as many of the next bits as fit".
 -- Assumes nothing.
-use Rattle.std.specs.Prelude.{Bool, true, false, List, [], ◌∷◌, map, ◌≡◌, ℕ, zero, suc, ◌-◌, min, ◌<◌, leb}
+use Rattle.std.specs.Prelude.{Bool, true, false, List, [], ◌∷◌, map, ◌≡◌, ℕ, zero, suc, ◌-◌, min, leb}
 use Rattle.terms.specs.Choice.{when}
 use Rattle.terms.specs.Refusals.{taken}
 use Rattle.load.specs.declared.Load.{Load}
@@ -22,7 +22,7 @@ use Rattle.serial.specs.declared.Turn.{Turn}
 use Rattle.serial.specs.declared.Wire.{Wire}
 use Rattle.serial.specs.declared.Wire.TheVariants.{Byte}
 
--- So many bits of a phase from number i on, or as many as are left. The count isn't cut at 0, by `EveryByte`: i is one of the phase's.
+-- So many bits of a phase from number i on, or as many as are left.
 abbrev pub up_to : ℕ → Load → List ℕ → Phase → ℕ → List Bool
 up_to n load image phase i = bits_from load image phase i (min n (places load phase - i))
 
@@ -32,8 +32,7 @@ ahead load image zero p = []
 ahead load image (suc n) p =
     when (in_bits p.phase) (sent_bit load image p.phase p.index ∷ ahead load image n (onward load p.phase p.index)) []
 
--- The first of some bits, as many as fit so many bit times: "a 1 takes two bit times and a 0 takes three". A bit that is taken has room,
--- so that nothing is cut at 0.
+-- The first of some bits, as many as fit so many bit times: "a 1 takes two bit times and a 0 takes three".
 unfoldable pub fitting : ℕ → List Bool → List Bool
 fitting room [] = []
 fitting room (b ∷ bits) = when (leb (width b) room) (b ∷ fitting (room - width b) bits) []
@@ -49,9 +48,8 @@ unfoldable pub held : Packing → Load → List ℕ → Phase → ℕ → List B
 held packing load image phase i = when (in_pairs phase) (true ∷ false ∷ []) (held_of packing load image phase i)
 
 -- Every byte that a step sends, whatever record it is a step of, has the low runs that spell the bits it holds: one bit time for a 1, two
--- for a 0. It is filled from where what came back has led, which is a place of its phase.
+-- for a 0. It is filled from where what came back has led.
 abbrev pub EveryByte : Type 0
 EveryByte =
     (s : Serial) (image : List ℕ) (back : Wire) (t : Turn) (byte : ℕ) → serial_step s image back ≡ taken t → t.sent ≡ Byte byte
-    → ((resumed_at s back).index < places s.load (resumed_at s back).phase)
-    × (low_runs byte ≡ map run (held s.packing s.load image (resumed_at s back).phase (resumed_at s back).index))
+    → low_runs byte ≡ map run (held s.packing s.load image (resumed_at s back).phase (resumed_at s back).index)

@@ -5,8 +5,8 @@ use Rattle.std.specs.Prelude.{Bool, false, List, [], ◌∷◌, ◌++◌, map, �
 use Rattle.terms.specs.Refusals.{Answer, refused, taken}
 use Rattle.units.specs.declared.Seen.{Seen}
 use Rattle.units.specs.declared.Seen.TheVariants.{Silence}
-use Rattle.place.specs.Endings as host
 use Rattle.place.specs.Phases.{ended}
+use Rattle.place.specs.declared.Phase.TheVariants.{Ended}
 use Rattle.session.specs.Step.{session_start, session_step}
 use Rattle.session.specs.declared.Pulse.{Pulse}
 use Rattle.session.specs.declared.Session.{Session}
@@ -92,9 +92,9 @@ module _ (x : Serial) (lent : ℕ → List ℕ) (back : ℕ → Wire) where
     pub session : Steps first (tolds calls) bits left
     pub spells : runs_of calls ≡ map run bits
     pub alike : (serials calls).place ≡ left.place
-    -- They are the bits that 01 spells, with its ending's number.
+    -- They are the bits that 01 spells, with its ending.
     pub pulses : bits ≡ map (λ (m : Mark). m.bit) (spelled_by command (length image) calls).pulses
-    pub ending : host.end_at (serials calls).place.phase ≡ host.ended (host.number (spelled_by command (length image) calls).ending)
+    pub ending : (serials calls).place.phase ≡ Ended (spelled_by command (length image) calls).ending
     -- The session ends.
     pub bound : calls ≤ 1299 + length image * 8
 

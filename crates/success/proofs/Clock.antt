@@ -4,11 +4,12 @@
 use mathlib.Core.Bool.{Bool, true, false, true≢false}
 use mathlib.Core.List.{List}
 use mathlib.Core.Path.{◌≡◌, refl, sym, ap, ◌∙◌, subst}
-use Prim.Native.Nat.{ℕ, zero, suc, ◌+◌, ◌-◌, ◌*◌, ◌%◌, ◌≤◌, ◌<◌}
+use Prim.Native.Nat.{ℕ, ◌+◌, ◌-◌, ◌*◌, ◌/◌, ◌%◌, ◌≤◌, ◌<◌}
 use native.Mathlib.Omega.{arith}
+use lib.Dec.{eqb}
 use borrow.Author.Tests.{lt-leb}
 use Rattle.terms.specs.Choice.{when}
-use Rattle.terms.proofs.Tests.{when_false}
+use Rattle.terms.proofs.Tests.{when_elim, when_false}
 use Rattle.units.specs.declared.Seen.{Seen}
 use Rattle.load.specs.declared.Load.{Load}
 use Rattle.settings.specs.declared.Settings.{Settings}
@@ -16,6 +17,7 @@ use Rattle.settings.proofs.Exactly.{Fit}
 use Rattle.bits.specs.Bits.{sent_bit}
 use Rattle.follow.specs.Follow.{next, ends_silent_pair}
 use Rattle.host.specs.Time.{low, spacer}
+use Rattle.place.specs.Phases as place
 use Rattle.place.specs.declared.Phase as host_phase
 use Rattle.phases.specs.Phases as chip
 use Rattle.phases.specs.declared.Phase.{Phase}
@@ -32,37 +34,52 @@ use Rattle.receiver.proofs.Going.{Then, heard_then, settled_goes, settled_counts
 use Rattle.chip.specs.Work.{done}
 use Rattle.conversation.specs.Conversation.{waits, are_in_step, bit_of}
 use Rattle.bits.specs.Seeing.{sees}
-use Rattle.host.specs.declared.Sent.{Sent}
-use Rattle.joined.specs.Ends.{after}
-use Rattle.joined.specs.Joined.{State, Measuring, waited, wait_ticks, low_ticks, pulsed, host_ended}
-use Rattle.joined.proofs.Sound.{shot, host_sends}
-use Rattle.success.specs.Success.{Measures, MeasuresAll, Loop, Margin}
+use Rattle.joined.specs.Joined.{State, Measuring, waited, lasted, pulsed, host_ended}
+use Rattle.joined.proofs.Sound.{shot}
+use Rattle.success.specs.Success.{May, Loop, Margin}
 use Rattle.success.proofs.Countdown.{within_pair, silent_waits, leg_of, Paced, leg_short, paced_timely, paced_on}
 use Rattle.success.proofs.Simulation.{talk_of, Meets, wait_of, low_of, after_it, pulsed_so, Clocking}
-use Rattle.success.proofs.Legs.{wait_lasts, low_lasts}
-use Rattle.success.proofs.Timing.{Near, loops_near, lasting, Low}
+use Rattle.success.proofs.Timing.{Near, ticks_near, loops_near, lasting, Low}
 
-module _ (t h p l : ℕ) (fit : Fit t h p) (loop : Loop l) (margin : Margin t p l) (measured : Measuring) (image : List ℕ) where
+module _ (t h p l : ℕ) (fit : Fit t h p) (loop : Loop l) (margin : Margin t p l)
+    (measured : Measuring) (may : (n ticks : ℕ) → ticks * p < 90001000000 → May p l ticks (measured n ticks)) where
   abbrev pub figures : Settings
   figures = record { t = t; h = h; p = p }
 
-  -- The next fall comes h after the last rise, but in a wait; and each pulse to come is measured as it may be.
+  -- The last rise was at `rose` ps, and the next fall comes a spacer later: h, but in a wait.
   pub record Clocked (s : State) : Type 0 where
     pub settings : s.host.settings ≡ figures
-    pub close : host_ended s ≡ false → waits s.host.session.place.phase ≡ false → s.host.time ≤ s.risen + h * 1000
+    pub rose : ℕ
+    pub space : ℕ
+    pub at : s.rise ≡ rose / p
+    pub next : s.host.time ≡ rose + space
+    pub short : space ≤ 10000000000
+    pub close : host_ended s ≡ false → waits s.host.session.place.phase ≡ false → space ≤ h * 1000
     pub paced : Paced t h p l fit loop s.chip.receiver.listener.phase s.host.session.place.index s.chip.receiver.left.0
-    pub may : MeasuresAll p l measured image s
 
-  -- After a pulse, those that come after it.
-  later_may : (s : State) → MeasuresAll p l measured image s → MeasuresAll p l measured image (pulsed measured image s)
-  unfolding after
-  later_may s may n = may (suc n)
+  -- Every leg is measured near its length.
+  leg-near : (n a d : ℕ) → d ≤ 10000000000 → Near (l + p) d (measured n ((a + d) / p - a / p) * l)
+  leg-near n a d short =
+      let near = ticks_near p a d (omega (arith, fit.p_within.0)) in
+      let brief : ((a + d) / p - a / p) * p < 90001000000 = omega (arith, near.above, short, fit.p_within.1) in
+      loops_near p l d ((a + d) / p - a / p) (measured n ((a + d) / p - a / p)) near (may n ((a + d) / p - a / p) brief)
 
-  -- A low is at most two unit times; where no silent pair ended a spacer is h.
+  wait-near : (n a d : ℕ) → d ≤ 10000000000 → waited measured n ((a + d) / p - a / p) * l < d + (l + p)
+  unfolding waited
+  wait-near n a d short =
+      when_elim (λ (c : ℕ). c * l < d + (l + p)) (eqb n 0) 0 (measured (n * 2) ((a + d) / p - a / p)) (λ e. omega (arith, loop.0))
+      (λ e. (leg-near (n * 2) a d short).above)
+
+  -- A low is at most two unit times, and a spacer at most 10 ms; where no silent pair ended it is h.
   low_most : (b : Bool) → low figures b ≤ 2 * t * 1000
   unfolding low when
   low_most true = omega arith
   low_most false = omega arith
+
+  spacer_most : (b : Bool) → spacer figures b ≤ 10000000000
+  unfolding spacer when
+  spacer_most true = omega (arith, fit.paced)
+  spacer_most false = omega (arith, fit.paced)
 
   spacer_close : (b : Bool) → (b ≡ true → ⊥) → spacer figures b ≤ h * 1000
   unfolding spacer when
@@ -74,7 +91,7 @@ module _ (t h p l : ℕ) (fit : Fit t h p) (loop : Loop l) (margin : Margin t p 
   lasting_low true = refl
   lasting_low false = omega arith
 
-  module _ (load : Load) (s : State) (m : Meets measured image load s) (going : host_ended s ≡ false)
+  module _ (image : List ℕ) (load : Load) (s : State) (m : Meets measured image load s) (going : host_ended s ≡ false)
       (listens : chip.ended s.chip.receiver.listener.phase ≡ false)
       (step : are_in_step s.host.session.place.phase s.chip.receiver.listener.phase ≡ true) (c : Clocked s) where
     abbrev phase : host_phase.Phase
@@ -96,19 +113,18 @@ module _ (t h p l : ℕ) (fit : Fit t h p) (loop : Loop l) (margin : Margin t p 
     bit_same : bit ≡ bit_of load image (talk_of s)
     bit_same = ap (λ (x : Load). sent_bit x image phase i) m.loaded
 
-    -- The pulse that is sent, and how it is measured.
-    abbrev pulse : Sent
-    pulse = shot measured image s m.sound going
+    wait_ticks_lem : (shot measured image s m.sound going).fall.0 - s.rise ≡ (c.rose + c.space) / p - c.rose / p
+    wait_ticks_lem =
+        ap (λ (x : Settings). s.host.time / x.p - s.rise) c.settings
+        ∙ ap (λ (x : ℕ). x / p - s.rise) c.next
+        ∙ ap (λ (x : ℕ). (c.rose + c.space) / p - x) c.at
 
-    measures : Measures p l measured s pulse
-    unfolding after
-    measures = c.may 0 pulse (host_sends measured image s m.sound going)
+    low_ticks_lem : (shot measured image s m.sound going).rise.0 - (shot measured image s m.sound going).fall.0
+        ≡ (s.host.time + low figures bit) / p - s.host.time / p
+    low_ticks_lem = ap (λ (x : Settings). (s.host.time + low x bit) / x.p - s.host.time / x.p) c.settings
 
-    abbrev space : ℕ
-    space = m.sound.space
-
-    some : 0 < p
-    some = omega (arith, fit.p_within.0)
+    low-brief : low figures bit ≤ 10000000000
+    low-brief = omega (arith, low_most bit, fit.t_within.1)
 
     abbrev wait_loops_lem : ℕ
     wait_loops_lem = wait_of measured image load s m going listens
@@ -116,21 +132,15 @@ module _ (t h p l : ℕ) (fit : Fit t h p) (loop : Loop l) (margin : Margin t p 
     abbrev low_loops_lem : ℕ
     low_loops_lem = low_of measured image load s m going listens
 
-    -- The first wait measures 0, each other leg near its length.
-    wait_by : (n : ℕ) → s.host.session.pulses ≡ n → wait_loops_lem * l < space + (l + p)
-    unfolding waited when
-    wait_by zero e = subst (λ (n : ℕ). waited measured n (wait_ticks s pulse) * l < space + (l + p)) (sym e) (omega (arith, loop.0))
-    wait_by (suc n) e =
-        (loops_near p l space (wait_ticks s pulse) wait_loops_lem (wait_lasts figures some measured image s m.sound going c.settings)
-        (measures.wait (omega (arith, e)))).above
-
-    wait_above : wait_loops_lem * l < space + (l + p)
-    wait_above = wait_by s.host.session.pulses refl
+    wait_above : wait_loops_lem * l < c.space + (l + p)
+    wait_above =
+        subst (λ (x : ℕ). waited measured s.host.session.pulses x * l < c.space + (l + p)) (sym wait_ticks_lem)
+        (wait-near s.host.session.pulses c.rose c.space c.short)
 
     low_near : Near (l + p) (low figures bit) (low_loops_lem * l)
     low_near =
-        loops_near p l (low figures bit) (low_ticks pulse) low_loops_lem (low_lasts figures some measured image s m.sound going c.settings)
-        measures.low
+        subst (λ (x : ℕ). Near (l + p) (low figures bit) (lasted measured s.host.session.pulses x * l)) (sym low_ticks_lem)
+        (leg-near (s.host.session.pulses * 2 + 1) s.host.time (low figures bit) low-brief)
 
     low_measured : Low t p l margin (bit_of load image (talk_of s)) low_loops_lem
     low_measured =
@@ -144,14 +154,12 @@ module _ (t h p l : ℕ) (fit : Fit t h p) (loop : Loop l) (margin : Margin t p 
     abbrev left : ℕ
     left = s.chip.receiver.left.0
 
-    legs : space + low figures bit ≤ leg_of t h p l fit loop from
-    legs =
-        leg_short t h p l fit loop space (low figures bit) (low_most bit) m.sound.short phase
-        (λ aloud. let near = c.close going aloud in omega (arith, near, m.sound.next)) from step
+    legs : c.space + low figures bit ≤ leg_of t h p l fit loop from
+    legs = leg_short t h p l fit loop c.space (low figures bit) (low_most bit) c.short phase (c.close going) from step
 
     in_time : wait_loops_lem + low_loops_lem < left
     in_time =
-        paced_timely t h p l fit loop wait_loops_lem low_loops_lem space (low figures bit) wait_above low_near.above i left from listens legs
+        paced_timely t h p l fit loop wait_loops_lem low_loops_lem c.space (low figures bit) wait_above low_near.above i left from listens legs
         c.paced
 
     timely : late left wait_loops_lem low_loops_lem ≡ false
@@ -208,23 +216,22 @@ module _ (t h p l : ℕ) (fit : Fit t h p) (loop : Loop l) (margin : Margin t p 
       paced_next : Paced t h p l fit loop (settled h' good).phase j (counting from h'.listener.phase rest)
       paced_next =
           subst (Paced t h p l fit loop (settled h' good).phase j) (settled_counts low_loops_lem read from h' good goes rest)
-          (paced_on t h p l fit loop wait_loops_lem low_loops_lem space (low figures bit) wait_above low_near.above i left read j from
+          (paced_on t h p l fit loop wait_loops_lem low_loops_lem c.space (low figures bit) wait_above low_near.above i left read j from
           (settled h' good).phase (settled_goes low_loops_lem read from h' good goes) pair legs c.paced)
 
       goes_on : Clocked (pulsed measured image s)
       goes_on =
-          subst (λ (x : State). MeasuresAll p l measured image x → Clocked x) (sym pulsed_timely)
-          (λ may. record {
+          subst Clocked (sym pulsed_timely) (record {
             settings = c.settings;
-            close = λ going' aloud.
-                let close = spacer_close silent (λ e.
-                true≢false (sym (silent_waits s.host.session.load image i seen phase e going') ∙ aloud)) in
-                let same = ap (λ (x : Settings). spacer x silent) c.settings in
-                omega (arith, close, same);
+            rose = s.host.time + low figures bit;
+            space = spacer figures silent;
+            at = ap (λ (x : Settings). (s.host.time + low x bit) / x.p) c.settings;
+            next = ap (λ (x : Settings). s.host.time + low x bit + spacer x silent) c.settings;
+            short = spacer_most silent;
+            close = λ going' aloud. spacer_close silent (λ e.
+                true≢false (sym (silent_waits s.host.session.load image i seen phase e going') ∙ aloud));
             paced = paced_next;
-            may = may;
           })
-          (later_may s c.may)
 
     pub clock : Clocking measured image load (Low t p l margin) Clocked s m going listens
     clock = record { timely = timely; low = low_measured; next = goes_on }

@@ -2,10 +2,8 @@ pub mod Calibration
 pub mod Clock
 pub mod Countdown
 pub mod Drawing
-pub mod Legs
 pub mod Looking
 pub mod Meeting
-pub mod Rounding
 pub mod Simulation
 pub mod Succeeding
 pub mod Thresholds

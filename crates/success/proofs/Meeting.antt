@@ -3,21 +3,23 @@
 use mathlib.Core.Bool.{true, false, true≢false}
 use mathlib.Core.List.{List}
 use mathlib.Core.Path.{◌≡◌, refl, sym, ap, ◌∙◌, subst}
-use Prim.Native.Nat.{ℕ, zero, suc, ◌≤◌, ◌<◌}
+use Prim.Native.Nat.{ℕ, zero, suc, ◌+◌, ◌*◌, ◌/◌, ◌%◌, ◌≤◌, ◌<◌, min}
+use native.Mathlib.Nat.{div-add-mod', lt_of_mul-lt-mul_right, mod-lt}
 use native.Mathlib.Omega.{arith}
 use lib.ListN.{length}
 use Rattle.terms.specs.Choice.{when, either}
 use Rattle.terms.specs.Refusals.{Answer, refused, taken}
 use Rattle.terms.proofs.Answers.{back}
 use Rattle.terms.proofs.Refusals.{not_both}
+use Rattle.units.specs.Units.{most, loops_in}
+use Rattle.units.proofs.Conversions.{some_length}
 use Rattle.lent.specs.Bytes.{word_at, total}
 use Rattle.load.specs.Image.{bad_length, other_length, other_start, bad_stack, other_sum}
 use Rattle.settings.specs.Settings.{outside, slow}
-use Rattle.place.proofs.Endings.{over, over_at}
+use Rattle.place.specs.Phases.{ended}
 use Rattle.host.specs.Step.{host_start}
 use Rattle.host.specs.declared.Host.{Host}
 use Rattle.eeprom.specs.declared.Fault.TheVariants.{None}
-use Rattle.chip.specs.Step as chip
 use Rattle.chip.specs.Step.{chip_start}
 use Rattle.chip.specs.declared.Chip.{Chip}
 use Rattle.checks.specs.Sample.{sample}
@@ -25,12 +27,33 @@ use Rattle.conversation.specs.Final.{AllBytes, ram_after}
 use Rattle.joined.specs.Ends.{after, Ends}
 use Rattle.conversation.proofs.Longs.{bytes_tested}
 use Rattle.joined.specs.Joined.{State, Measuring, rounded_down, host_ended, begun}
+use Rattle.place.specs.Endings as place
+use Rattle.phases.specs.Endings as phases
 use Rattle.joined.specs.Run.{Outcome, Left, budget, outcome, left, finished, from_chip, from_host, run_of}
-use Rattle.joined.proofs.Budget.{every_run_ends}
-use Rattle.success.specs.Met.{fresh, zeros, AskedOfSample, Answers, Met}
-use Rattle.success.specs.Success.{Loop, Margin, Asked, pulses, Succeeds}
-use Rattle.success.proofs.Rounding.{rounding_down}
+use Rattle.joined.proofs.Budget.{run_ends}
+use Rattle.success.specs.Met.{fresh, AskedOfSample, Answers, Met}
+use Rattle.success.specs.Success.{May, Loop, Margin, Asked, pulses, Succeeds}
 use Rattle.success.proofs.Succeeding.{demand_3}
+
+module _ (p l : ℕ) (loop : 400000 ≤ l) (ticks : ℕ) (brief : ticks * p < 90001000000) where
+  few : ticks * p / l ≤ most
+  few =
+      let whole : ticks * p / l * l + ticks * p % l ≡ ticks * p = div-add-mod' (ticks * p) l in
+      let scaled : ticks * p / l * l < 250000 * l = omega (arith, whole, brief, loop) in
+      let less : ticks * p / l < 250000 = lt_of_mul-lt-mul_right l scaled in
+      omega (arith, less)
+
+  rounds_down : loops_in ticks p l ≡ ticks * p / l
+  rounds_down =
+      let some : l ≡ 0 → ⊥ = λ e. omega (arith, e, loop) in
+      let least : min (ticks * p / l) most ≡ ticks * p / l = omega (arith, few) in
+      some_length ticks p l some ∙ least
+
+  pub down_may : May p l ticks (loops_in ticks p l)
+  down_may =
+      let whole : ticks * p / l * l + ticks * p % l ≡ ticks * p = div-add-mod' (ticks * p) l in
+      let rest : ticks * p % l < l = mod-lt (ticks * p) (omega (arith, loop)) in
+      subst (May p l ticks) (sym rounds_down) (record { above = omega (arith, whole, loop); below = omega (arith, whole, rest) })
 
 -- The sample S: every test of both starts computes.
 asked_of_sample : (t h p command : ℕ) → host_start t h p command sample ≡ taken (fresh t h p command sample)
@@ -42,9 +65,7 @@ asked_of_sample t h p command starts margin = record {
   chip_starts = refl;
   loop = (omega arith, omega arith);
   margin = margin;
-  may =
-      rounding_down t h p command sample (fresh t h p command sample) zeros zeros None (chip.fresh None) 400000 starts refl
-      (omega arith, omega arith);
+  may = λ n ticks brief. down_may p 400000 (omega arith) ticks brief;
 }
 
 sample_taken : (command : ℕ) → command ≤ 3 → host_start 8600 8600 700000 command sample ≡ taken (fresh 8600 8600 700000 command sample)
@@ -88,10 +109,10 @@ module _ (t h p command : ℕ) (image : List ℕ) (host : Host) (ram eeprom : Li
   succeeds = demand_3 t h p command image host ram eeprom chip l (rounded_down p l) a
 
   ends : Ends (rounded_down p l) image budget start
-  ends = every_run_ends (rounded_down p l) t h p command image host ram eeprom None chip a.host_starts a.chip_starts
+  ends = run_ends (rounded_down p l) image t h p command host a.host_starts ram eeprom None chip a.chip_starts
 
   host_ended_lem : host_ended last ≡ true
-  host_ended_lem = sym (over_at last.host.session.place.phase) ∙ ap over succeeds.host_ends
+  host_ended_lem = ap ended succeeds.host_ends
 
   ends_there : ends.pulses ≡ pulses command (length image)
   ends_there =
@@ -115,8 +136,8 @@ module _ (t h p command : ℕ) (image : List ℕ) (host : Host) (ram eeprom : Li
         ∙ ap (λ (x : List ℕ). left (taken came_to) x last.eeprom) succeeds.ram_left
         ∙ ap (left (taken came_to) (ram_after command image ram)) succeeds.eeprom_left;
     sent = succeeds.counted;
-    host_ends = succeeds.host_ends;
-    chip_ends = succeeds.chip_ends;
+    host_ends = ap place.end_at succeeds.host_ends;
+    chip_ends = ap phases.end_at succeeds.chip_ends;
   }
 
   not_refused : (n : ℕ) → (run_of t h p command image None l ram eeprom).answer ≡ refused n → ⊥
@@ -142,7 +163,7 @@ module _ (t h p command : ℕ) (image : List ℕ) (l : ℕ) (ram eeprom : List �
         chip_starts = w;
         loop = loop;
         margin = margin;
-        may = rounding_down t h p command image host ram eeprom None chip l q w loop;
+        may = λ n ticks brief. down_may p l loop.0 ticks brief;
       }) o e
 
   by_host : (x : Answer Host) → host_start t h p command image ≡ x → (from_host (rounded_down p l) image ram eeprom None x).answer ≡ taken o
@@ -156,7 +177,7 @@ module _ (t h p command : ℕ) (image : List ℕ) (l : ℕ) (ram eeprom : List �
 
 pub met : Met
 met = record {
-  rounding_down = rounding_down;
+  rounding_down = λ p l loop n ticks brief. down_may p l loop ticks brief;
   sample_met = λ command h. asked_of_sample 8600 8600 700000 command (sample_taken command h) (omega arith);
   just_met = asked_of_sample 4300 8600 575000 1 just_taken (omega arith);
   just = refl;

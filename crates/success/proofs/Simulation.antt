@@ -4,7 +4,7 @@
 use mathlib.Core.Bool.{Bool, true, false}
 use mathlib.Core.List.{List}
 use mathlib.Core.Path.{◌≡◌, refl, sym, ap, ◌∙◌, subst}
-use Prim.Native.Nat.{ℕ, ◌+◌, ◌<◌}
+use Prim.Native.Nat.{ℕ, ◌+◌, ◌-◌, ◌<◌}
 use native.Mathlib.Numerals.{add-one}
 use native.Mathlib.Omega.{arith}
 use Rattle.terms.proofs.Tests.{when_false}
@@ -30,7 +30,7 @@ use Rattle.conversation.specs.Conversation.{Talk, are_in_step, bit_of, place_aft
 use Rattle.conversation.proofs.Pulses.{sound_stays}
 use Rattle.joined.specs.Ends.{after, Unrefused}
 use Rattle.bits.specs.Seeing.{sees}
-use Rattle.joined.specs.Joined.{State, Measuring, wait_loops, low_loops, listened, met, pulsed, host_ended}
+use Rattle.joined.specs.Joined.{State, Measuring, waited, lasted, listened, met, pulsed, host_ended}
 use Rattle.joined.proofs.Budget.{before_all}
 use Rattle.joined.proofs.Sound.{Sound, shot, chip_plays, pulsed_met, pulsed_sound, pulsed_count, unrefused_here}
 use Rattle.success.proofs.Looking.{sees_enough}
@@ -51,10 +51,12 @@ module _ (measured : Measuring) (image : List ℕ) (load : Load) where
   module _ (s : State) (m : Meets s) (going : host_ended s ≡ false) (listens : chip.ended s.chip.receiver.listener.phase ≡ false) where
     -- How the next pulse is measured.
     abbrev pub wait_of : ℕ
-    wait_of = wait_loops measured s (shot measured image s m.sound going)
+    wait_of = waited measured s.host.session.pulses ((shot measured image s m.sound going).fall.0 - s.rise)
 
     abbrev pub low_of : ℕ
-    low_of = low_loops measured s (shot measured image s m.sound going)
+    low_of =
+        lasted measured s.host.session.pulses
+        ((shot measured image s m.sound going).rise.0 - (shot measured image s m.sound going).fall.0)
 
     abbrev pub after_it : Received → State
     after_it r = met s.chip (shot measured image s m.sound going) (pulse s.chip s.ram s.eeprom r)

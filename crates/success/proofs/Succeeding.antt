@@ -4,7 +4,7 @@ use mathlib.Core.Bool.{Bool, true, false}
 use mathlib.Core.List.{List}
 use mathlib.Core.Path.{◌≡◌, refl, sym, ap, ◌∙◌, subst}
 use Prim.Native.Nat.{ℕ, ◌+◌, ◌*◌, ◌<◌}
-use native.Mathlib.Nat.{zero-add}
+use native.Mathlib.Nat.{zero-add, zero-div}
 use native.Mathlib.Omega.{arith}
 use lib.Dec.{eqb}
 use lib.ListN.{length}
@@ -16,26 +16,24 @@ use Rattle.load.specs.declared.Load.{Load}
 use Rattle.settings.specs.declared.Settings.{Settings}
 use Rattle.settings.proofs.Exactly.{Fit}
 use Rattle.bits.specs.Seeing.{sees}
-use Rattle.load.proofs.Exactly.{load_taken}
 use Rattle.load.proofs.Facts.{Known}
 use Rattle.session.specs.Step as session
 use Rattle.host.specs.Step as hosts
 use Rattle.host.specs.declared.Host.{Host}
 use Rattle.host.proofs.Starts.{start_gives}
-use Rattle.place.specs.Endings as host_end
-use Rattle.phases.specs.Endings as chip_end
 use Rattle.eeprom.specs.declared.Fault.TheVariants.{None}
 use Rattle.chip.specs.Step.{chip_start, start_rows}
 use Rattle.chip.specs.Step as chips
 use Rattle.chip.specs.declared.Chip.{Chip}
 use Rattle.conversation.specs.Conversation.{Talk, Reach, start, Success}
 use Rattle.conversation.specs.Final.{pulses_after}
-use Rattle.conversation.proofs.Conversations.{every_conversation}
+use Rattle.conversation.proofs.Conversations.{success}
 use Rattle.conversation.proofs.Replies.{Told, Replies, replies}
 use Rattle.joined.specs.Ends.{after}
 use Rattle.joined.specs.Joined.{State, Measuring, begun}
 use Rattle.joined.proofs.Budget.{start_sound}
 use Rattle.joined.proofs.Sound.{Sound}
+use Rattle.place.specs.declared.Place.{Place}
 use Rattle.success.specs.Success.{Asked, pulses, Succeeds, Demand3}
 use Rattle.success.proofs.Calibration.{before, Calibrated, calibrates}
 use Rattle.success.proofs.Clock.{Clocked, clock}
@@ -79,7 +77,7 @@ module _ (t h p command : ℕ) (image : List ℕ) (host : Host) (ram eeprom : Li
   fresh_chip = ((taken_exactly _ chip (start_rows ram eeprom None)).0 a.chip_starts).1
 
   sound : Sound image s
-  sound = start_sound t h p command image host ram eeprom None chip a.host_starts a.chip_starts
+  sound = start_sound measured image t h p command host a.host_starts ram eeprom None chip a.chip_starts
 
   meets : Meets measured image load s
   meets = record {
@@ -93,28 +91,30 @@ module _ (t h p command : ℕ) (image : List ℕ) (host : Host) (ram eeprom : Li
       ap (λ (x : Host). talk_of (begun x chip ram eeprom)) opened.0
       ∙ ap (λ (x : Chip). talk_of (begun (hosts.fresh figures (session.fresh load)) x ram eeprom)) fresh_chip
 
-  clocked : Clocked t h p l opened.1 a.loop a.margin measured image s
+  clocked : Clocked t h p l opened.1 a.loop a.margin measured a.may s
   clocked = record {
     settings = ap (λ (x : Host). x.settings) opened.0;
-    close = λ e w. let first = ap (λ (x : Host). x.time) opened.0 in omega (arith, first);
+    rose = 0;
+    space = 0;
+    at = sym (zero-div p);
+    next = ap (λ (x : Host). x.time) opened.0;
+    short = omega arith;
+    close = λ e w. omega arith;
     paced =
         subst (λ (x : Chip). Paced t h p l opened.1 a.loop x.receiver.listener.phase host.session.place.index x.receiver.left.0)
         (sym fresh_chip) (paced_fresh t h p l opened.1 a.loop host.session.place.index);
-    may = a.may;
   }
 
   abbrev finish : (threshold : ℕ) → Success command image threshold ram eeprom
-  finish threshold =
-      every_conversation command image threshold ram eeprom ((load_taken command image load).1 (opened.2, refl)) (λ n. a.bytes)
-      sound.ram_size sound.eeprom_size
+  finish threshold = success command image threshold ram eeprom opened.2 (λ n. a.bytes) sound.ram_size sound.eeprom_size
 
   -- Where so many pulses of the conversation lead, the run stands after as many and the calibration's two.
   leads : (n : ℕ) (end : ℕ → Talk) → ((threshold : ℕ) → Reach load image n (start threshold ram eeprom) (end threshold))
-      → Calibrated measured image load (Low t p l a.margin) (Clocked t h p l opened.1 a.loop a.margin measured image)
-      (clock t h p l opened.1 a.loop a.margin measured image load) (read_right t p l a.margin) n s end
+      → Calibrated measured image load (Low t p l a.margin) (Clocked t h p l opened.1 a.loop a.margin measured a.may)
+      (clock t h p l opened.1 a.loop a.margin measured a.may image load) (read_right t p l a.margin) n s end
   leads =
-      calibrates measured image load (Low t p l a.margin) (Clocked t h p l opened.1 a.loop a.margin measured image)
-      (clock t h p l opened.1 a.loop a.margin measured image load) (read_right t p l a.margin) s ram eeprom meets
+      calibrates measured image load (Low t p l a.margin) (Clocked t h p l opened.1 a.loop a.margin measured a.may)
+      (clock t h p l opened.1 a.loop a.margin measured a.may image load) (read_right t p l a.margin) s ram eeprom meets
       clocked talks
 
   -- What the host is told there.
@@ -139,8 +139,8 @@ module _ (t h p command : ℕ) (image : List ℕ) (host : Host) (ram eeprom : Li
         host_goes = λ k i. run.runs.host_goes k (subst (λ (m : ℕ). k < m) (sym all) i);
         chip_goes = λ k i. run.runs.chip_goes k (subst (λ (m : ℕ). k < m) (sym all) i);
         unrefused = λ k i. run.runs.unrefused k (subst (λ (m : ℕ). k < m) (sym all) i);
-        host_ends = ap (λ (x : Talk). host_end.end_at x.place.phase) ends ∙ last.host;
-        chip_ends = ap (λ (x : Talk). chip_end.end_at x.listener.phase) ends ∙ last.chip;
+        host_ends = ap (λ (x : Talk). x.place.phase) ends ∙ ap (λ (x : Place). x.phase) last.host;
+        chip_ends = ap (λ (x : Talk). x.listener.phase) ends ∙ last.chip;
         ram_left = ap (λ (x : Talk). x.ram) ends ∙ last.ram_left;
         eeprom_left = ap (λ (x : Talk). x.eeprom) ends ∙ last.eeprom_left;
         counted =

@@ -1,23 +1,21 @@
 -- 01, "Host joined to chip": what demand 3 asks can be met, and `run` meets it.
 -- Assumes nothing.
-use Rattle.std.specs.Prelude.{List, ◌≡◌, ℕ, ◌+◌, ◌*◌, ◌≤◌, length, replicate}
+use Rattle.std.specs.Prelude.{List, ◌≡◌, ℕ, ◌+◌, ◌*◌, ◌≤◌, ◌<◌, length, replicate}
 use Rattle.terms.specs.Refusals.{refused, taken}
 use Rattle.load.specs.Load.{load_of}
 use Rattle.session.specs.Step as session
 use Rattle.place.specs.Endings.{ended}
 use Rattle.host.specs.Step as host
-use Rattle.host.specs.Step.{host_start}
 use Rattle.host.specs.declared.Host.{Host}
-use Rattle.eeprom.specs.declared.Fault.{Fault}
 use Rattle.eeprom.specs.declared.Fault.TheVariants.{None}
+use Rattle.phases.specs.Endings.{name}
 use Rattle.chip.specs.Step as chip
-use Rattle.chip.specs.Step.{chip_start}
 use Rattle.chip.specs.declared.Chip.{Chip}
 use Rattle.checks.specs.Sample.{sample}
 use Rattle.conversation.specs.Final.{AllBytes, ram_after, eeprom_after, chip_ending}
-use Rattle.joined.specs.Joined.{rounded_down, begun}
+use Rattle.joined.specs.Joined.{rounded_down}
 use Rattle.joined.specs.Run.{Outcome, left, run_of}
-use Rattle.success.specs.Success.{MeasuresAll, Loop, Margin, Asked, pulses}
+use Rattle.success.specs.Success.{May, Loop, Margin, Asked, pulses}
 
 -- A host before its first pulse, and memories of zeros.
 abbrev pub fresh : ℕ → ℕ → ℕ → ℕ → List ℕ → Host
@@ -36,20 +34,18 @@ pub record Answers (t h p command : ℕ) (image : List ℕ) (l : ℕ) (ram eepro
   pub ran : run_of t h p command image None l ram eeprom ≡ left (taken o) (ram_after command image ram) (eeprom_after command image eeprom)
   pub sent : o.pulses ≡ pulses command (length image)
   pub host_ends : o.host ≡ ended 0
-  pub chip_ends : o.chip ≡ chip_ending command
+  pub chip_ends : o.chip ≡ name (chip_ending command)
 
 pub record Met : Type 0 where
-  -- Rounding down is one way that each pulse may be measured, in every run of a host and a chip that were started.
-  pub rounding_down : (t h p command : ℕ) (image : List ℕ) (host : Host) (ram eeprom : List ℕ) (fault : Fault) (chip : Chip) (l : ℕ)
-      → host_start t h p command image ≡ taken host → chip_start ram eeprom fault ≡ taken chip → Loop l
-      → MeasuresAll p l (rounded_down p l) image (begun host chip ram eeprom)
+  -- Rounding down is one way that each count may be measured.
+  pub rounding_down : (p l : ℕ) → 400000 ≤ l → (n ticks : ℕ) → ticks * p < 90001000000 → May p l ticks (rounded_down p l n ticks)
   -- All is met by S with each command, with the figures of `planned`, and where t is just five loops and four ticks.
   pub sample_met : (command : ℕ) → command ≤ 3 → AskedOfSample 8600 8600 700000 command
   pub just_met : AskedOfSample 4300 8600 575000 1
   pub just : 5 * 400000 + 4 * 575000 ≡ 4300 * 1000
   -- And by the slowest figures of a bench that are taken: with a tick of one picosecond more they are refused 16.
   pub slowest_met : AskedOfSample 8600 576800 219047 1
-  pub slower : host_start 8600 576800 219048 1 sample ≡ refused 16
+  pub slower : host.host_start 8600 576800 219048 1 sample ≡ refused 16
   -- `run` rounds down: it is taken wherever all is met, and then succeeds.
   pub run_taken : (t h p command : ℕ) (image : List ℕ) (host : Host) (ram eeprom : List ℕ) (chip : Chip) (l : ℕ)
       → Asked t h p command image host ram eeprom chip l (rounded_down p l) → (n : ℕ)

@@ -59,7 +59,7 @@ timed_rows p s = 13 given-when settings_outside s ∷ 13 given-when plan_outside
 
 -- The times, or 13.
 unfoldable pub timed : Plan → Settings → ℕ → Answer Times
-timed p s n = first (timed_rows p s) (times_of p s n)
+timed p s n = first (13 given-when settings_outside s ∷ 13 given-when plan_outside p ∷ []) (times_of p s n)
 
 -- What an answer tells: its number where it is a refusal, otherwise the times.
 abbrev pub told_timed : Timed → Answer Times
