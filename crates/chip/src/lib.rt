@@ -1,4 +1,5 @@
 // The chip model: one pulse a step, over lent memories.
+#![tactic(auto)]
 ghost use Rattle.std.specs.Prelude.{◌≡◌};
 ghost use Rattle.phases.specs.Endings.{end_at, told_end};
 ghost use Rattle.phases.specs.Phases.{ended};
@@ -12,28 +13,28 @@ use receiver::{Received, Receiver};
 use units::{Bytes, Loops, Seen};
 
 // A chip: what is wrong with its EEPROM, and how far it has listened.
-#[derive(Drop)]
+#[derive(Clone, Copy)]
 pub struct Chip {
     pub fault: Fault,
     pub receiver: Receiver,
 }
 
 // What `Chip::start` answers: a refusal by its number, or the chip before its first pulse.
-#[derive(Drop)]
+#[derive(Clone, Copy)]
 pub enum Started {
     Refused(u8),
     Taken(Chip),
 }
 
 // A pulse played: the chip after it, and what the line shows at the pulse's rise.
-#[derive(Drop)]
+#[derive(Clone, Copy)]
 pub struct Played {
     pub chip: Chip,
     pub reply: Seen,
 }
 
 // What `Chip::step` answers: a refusal by its number, or the pulse that it played.
-#[derive(Drop)]
+#[derive(Clone, Copy)]
 pub enum Stepped {
     Refused(u8),
     Taken(Played),

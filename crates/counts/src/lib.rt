@@ -1,4 +1,5 @@
 // What a planned session sends, phase by phase, counted without time. In it the chip answers the second pair of each wait with 0.
+#![tactic(auto)]
 ghost use Rattle.std.specs.Prelude.{◌≡◌, ◌+◌, ◌*◌, ◌≤◌, ◌<◌, length};
 ghost use Rattle.terms.specs.Refusals.{taken};
 ghost use Rattle.load.specs.Load.{accepted, load_of};
@@ -7,7 +8,7 @@ ghost use Rattle.counts.specs.Counts.{after_version, bits_with, byte_ones, count
 use load::{Accepted, Load};
 
 // Bits 1, bits 0, ordinary spacers, and the longer spacers after silent pairs.
-#[derive(Drop)]
+#[derive(Clone, Copy)]
 pub struct Counts {
     pub ones: u32,
     pub zeros: u32,
@@ -17,7 +18,7 @@ pub struct Counts {
 
 // The counts of each phase, in the order in which they come; none for one that the command has not. The spacer after a phase's last pulse
 // is its own, and after the session's last pulse there is none.
-#[derive(Drop)]
+#[derive(Clone, Copy)]
 pub struct Plan {
     pub calibration: Counts,
     pub handshake: Counts,
@@ -32,7 +33,7 @@ pub struct Plan {
 }
 
 // What `Plan::new` answers: a refusal by its number, or the plan.
-#[derive(Drop)]
+#[derive(Clone, Copy)]
 pub enum Counted {
     Refused(u8),
     Taken(Plan),

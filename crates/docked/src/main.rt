@@ -1,6 +1,7 @@
 // Sends the image on standard input as serial bytes to a chip that answers by the rules. Arguments: COMMAND BITS. With BITS 0 it prints a line
 // for each packing, with 1, 3 or 5 it writes the bytes themselves by the packing that holds so many bits a byte at most; or the number of a
 // refusal. bench/serial.rs is the same program in Rust.
+#![tactic(auto)]
 use figures::Figure;
 use packing::Packing;
 use place::{HostEnd, Phase, Place};
@@ -23,7 +24,7 @@ const WAIT: u32 = 4;
 const ENDED: u32 = 5;
 
 // The session, the bytes that were sent so far, and the calls.
-#[derive(Drop)]
+#[derive(Clone, Copy)]
 struct Progress {
     serial: Serial,
     bytes: u32,

@@ -1,5 +1,6 @@
 // The EEPROM with its fault, and the work between it and RAM, both lent: programming, verification and boot. Where one of them is not of
 // its size, no page is accepted and nothing is booted.
+#![tactic(auto)]
 ghost use Rattle.std.specs.Prelude.{◌≡◌};
 ghost use Rattle.eeprom.specs.Eeprom.{booted, boots, fault_outside, programmed, programming, verifies};
 
@@ -10,7 +11,7 @@ use units::Bytes;
 
 // What is wrong with an EEPROM: nothing; it accepts so many pages more, and then acknowledges nothing; or it reads as this value at this
 // address, while the byte there is written normally.
-#[derive(Drop)]
+#[derive(Clone, Copy)]
 pub enum Fault {
     None,
     Accepts(u32),
@@ -18,7 +19,7 @@ pub enum Fault {
 }
 
 // How work on the memories went, and what is wrong with the EEPROM after it.
-#[derive(Drop)]
+#[derive(Clone, Copy)]
 pub struct Done {
     pub good: bool,
     pub fault: Fault,

@@ -1,5 +1,6 @@
 // A line of a settings file: NAME T H P, apart by spaces or tabs; what follows a # is a comment, and a carriage return at the line's end
 // does not count.
+#![tactic(auto)]
 ghost use Rattle.std.specs.Prelude.{◌≡◌};
 ghost use Rattle.figures.specs.Figures.{figure_of};
 ghost use Rattle.entries.specs.Entries.{ends_content, content_length, content_of, is_blank, skipped, word_end, word_start, word_bytes, word_place, no_word, is_between, may_be_named, is_name, setting_of, entry_of};
@@ -7,7 +8,7 @@ ghost use Rattle.entries.specs.Entries.{ends_content, content_length, content_of
 use figures::Figure;
 
 // What is wrong with a line.
-#[derive(Drop)]
+#[derive(Clone, Copy)]
 pub enum Cause {
     // It has fewer than four words, or more.
     Fewer,
@@ -22,7 +23,7 @@ pub enum Cause {
 }
 
 // The figures of a line, which Settings::new may still refuse.
-#[derive(Drop)]
+#[derive(Clone, Copy)]
 pub struct Bench {
     pub t: u32,
     pub h: u32,
@@ -30,7 +31,7 @@ pub struct Bench {
 }
 
 // What a line is: blank, wrong, or a setting.
-#[derive(Drop)]
+#[derive(Clone, Copy)]
 pub enum Entry {
     Blank,
     Wrong(Cause),

@@ -1,9 +1,10 @@
 // A bench figure as a caller writes it.
+#![tactic(auto)]
 ghost use Rattle.std.specs.Prelude.{◌≡◌};
 ghost use Rattle.figures.specs.Figures.{figure_of, with_digit};
 
 // What a text is: no number, or its value.
-#[derive(Drop)]
+#[derive(Clone, Copy)]
 pub enum Figure {
     Not,
     Number(u32),

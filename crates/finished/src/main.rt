@@ -1,6 +1,7 @@
 // Finishes a load in RAM, and prints the RAM's total, and whether the checksum is good. On standard input is a byte, and then what was
 // stored, of which no more is read than fills the RAM. Where that byte is `-` the load is not finished, so that what finishing takes can be
 // counted: bench/finish does.
+#![tactic(auto)]
 use units::Bytes;
 
 fn main() {

@@ -1,9 +1,10 @@
 // How bits stand in a serial byte: each is a low run on the line with one high bit time after it.
+#![tactic(auto)]
 ghost use Rattle.std.specs.Prelude.{◌≡◌};
 ghost use Rattle.frames.specs.Frames.{byte_of, fits, lows_of, width, with};
 
 // A byte that is being filled: its low bit times, the first in the lowest place, and how many bit times are used.
-#[derive(Drop)]
+#[derive(Clone, Copy)]
 pub struct Frame {
     pub lows: u16,
     pub used: u8,

@@ -1,5 +1,6 @@
 // Plays the longest load that command 3 has, the longest image, to a chip whose EEPROM has no fault, and prints what came of it.
 // bench/chip.rs is the same program in Rust.
+#![tactic(auto)]
 use chip::{Chip, Played, Started, Stepped};
 use eeprom::Fault;
 use margins::Margin;
@@ -31,7 +32,7 @@ const LOW_OF_ZERO: Loops = Loops(17);
 
 // The chip, the pulses that it took, the replies that it gave, and the number of its last refusal, or 0: as wide as the others, so that no
 // padding is copied at each pulse.
-#[derive(Drop)]
+#[derive(Clone, Copy)]
 struct Progress {
     chip: Chip,
     pulses: u32,

@@ -1,4 +1,5 @@
 // The host planner: a session in time, one pulse a step.
+#![tactic(auto)]
 ghost use Rattle.std.specs.Prelude.{◌≡◌};
 ghost use Rattle.place.specs.Endings.{end_at, told_end};
 ghost use Rattle.host.specs.Step.{host_start, host_step, told_begun, told_planned};
@@ -14,7 +15,7 @@ use units::{Seen, Ticks};
 
 // A host: the figures of its bench, the session that it sends, the exact time since the start, in ps, at which the next pulse falls, and
 // the ticks of each phase so far. In a record that has ended the time is the one at which a further pulse would fall.
-#[derive(Drop)]
+#[derive(Clone, Copy)]
 pub struct Host {
     pub settings: Settings,
     pub session: Session,
@@ -23,14 +24,14 @@ pub struct Host {
 }
 
 // What `Host::start` answers: a refusal by its number, or the host before its first pulse.
-#[derive(Drop)]
+#[derive(Clone, Copy)]
 pub enum Begun {
     Refused(u8),
     Taken(Host),
 }
 
 // A pulse sent: the host after it, the ticks of its two edges, and the exact time of its rise, in ps.
-#[derive(Drop)]
+#[derive(Clone, Copy)]
 pub struct Sent {
     pub host: Host,
     pub fall: Ticks,
@@ -39,7 +40,7 @@ pub struct Sent {
 }
 
 // What `Host::step` answers: a refusal by its number, or the pulse that it sends.
-#[derive(Drop)]
+#[derive(Clone, Copy)]
 pub enum Planned {
     Refused(u8),
     Taken(Sent),

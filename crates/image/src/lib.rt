@@ -1,4 +1,5 @@
 // An image made by rule, for the programs that load one: no file has to hold it.
+#![tactic(auto)]
 ghost use Rattle.std.specs.Prelude.{◌≡◌};
 ghost use Rattle.image.specs.Longest.{longest_image};
 

@@ -1,4 +1,5 @@
 // Host and chip joined: a whole run over lent memories.
+#![tactic(auto)]
 ghost use Rattle.std.specs.Prelude.{true, ◌≡◌};
 ghost use Rattle.place.specs.Phases.{ended};
 ghost use Rattle.place.specs.declared.HostEnd.TheVariants.{Ended, Going};
@@ -17,7 +18,7 @@ use units::{Seen, Ticks};
 
 // What a run came to: the pulses sent, the bits 1 and 0 among them, the tick of the last rise and its exact time, in ps, the ticks of each
 // phase, both endings, and the nearest 1 and 0 that the chip read.
-#[derive(Drop)]
+#[derive(Clone, Copy)]
 pub struct Report {
     pub pulses: u32,
     pub ones: u32,
@@ -31,14 +32,14 @@ pub struct Report {
 }
 
 // What `run` answers: a refusal by its number, or what the run came to.
-#[derive(Drop)]
+#[derive(Clone, Copy)]
 pub enum Ran {
     Refused(u8),
     Finished(Report),
 }
 
 // Host and chip between two pulses: the tick of the last rise and its exact time, in ps, and what the chip replied to the last pulse.
-#[derive(Drop)]
+#[derive(Clone, Copy)]
 struct Joined {
     host: Host,
     chip: Chip,

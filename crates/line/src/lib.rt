@@ -1,4 +1,5 @@
 // What passes on the line: how the chip reads a low, and the bits that it replies.
+#![tactic(auto)]
 ghost use Rattle.std.specs.Prelude.{◌≡◌, pos};
 ghost use Rattle.std.specs.Int.Signed.{lt_z};
 ghost use Rattle.line.specs.Reading.{distance_of, grown, reads, threshold_of};
@@ -8,7 +9,7 @@ use phases::{Acknowledgement, Reply};
 use units::{Distance, Loops};
 
 // A low as it was read: its bit, and how far from the threshold it lies.
-#[derive(Drop)]
+#[derive(Clone, Copy)]
 pub struct Read {
     pub distance: Distance,
     pub bit: bool,

@@ -1,5 +1,6 @@
 // The chip as it listens, without memories: how it reads a pulse, where that leads, what it replies, and which work on the memories it
 // calls for.
+#![tactic(auto)]
 ghost use Rattle.std.specs.Prelude.{◌≡◌};
 ghost use Rattle.listener.specs.Heard.{heard};
 ghost use Rattle.listener.specs.Settled.{settled};
@@ -15,7 +16,7 @@ use phases::Phase;
 use units::{Longs, Loops, Seen};
 
 // A chip that listens: its threshold, the command and the size, each 0 until it is known, and what the next pulse is to it.
-#[derive(Drop)]
+#[derive(Clone, Copy)]
 pub struct Listener {
     pub threshold: Loops,
     pub command: u32,
@@ -25,7 +26,7 @@ pub struct Listener {
 
 // Work on the memories: none; a long to store; the last long, with what finishes a load; programming; verification; the launch test; or
 // a boot.
-#[derive(Drop)]
+#[derive(Clone, Copy)]
 pub enum Event {
     Nothing,
     Store(Longs, u32),
@@ -37,7 +38,7 @@ pub enum Event {
 }
 
 // What a pulse leads to: the listener, if the work goes well; the work; and the reply at the pulse's rise.
-#[derive(Drop)]
+#[derive(Clone, Copy)]
 pub struct Heard {
     pub listener: Listener,
     pub event: Event,

@@ -1,4 +1,5 @@
 // What a start accepts beside its settings: a command with its image.
+#![tactic(auto)]
 ghost use Rattle.std.specs.Prelude.{◌≡◌};
 ghost use Rattle.load.specs.Load.{accepted, load_outside, other_image, told_accepted};
 
@@ -7,14 +8,14 @@ mod image;
 use units::Bytes;
 
 // A command, and the length of the image that goes with it: 0 for command 0, which has none.
-#[derive(Drop)]
+#[derive(Clone, Copy)]
 pub struct Load {
     pub command: u32,
     pub length: Bytes,
 }
 
 // What `Load::new` answers: a refusal by its number, or the load.
-#[derive(Drop)]
+#[derive(Clone, Copy)]
 pub enum Accepted {
     Refused(u8),
     Taken(Load),

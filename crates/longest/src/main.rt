@@ -1,5 +1,6 @@
 // Plans the longest session that command 1 has, of the longest image, against the replies of a good chip, and prints what was sent.
 // bench/host.rs is the same program in Rust.
+#![tactic(auto)]
 use host::{Begun, Host, Planned};
 use place::{HostEnd, Phase, Place};
 use ticks::PhaseTicks;
@@ -9,7 +10,7 @@ use units::{Seen, Ticks};
 const PULSES: u32 = 262_916;
 
 // The host, the last rise, and the sum of all edges' ticks modulo 2^64.
-#[derive(Drop)]
+#[derive(Clone, Copy)]
 struct Progress {
     host: Host,
     rise: Ticks,

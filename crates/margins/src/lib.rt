@@ -1,4 +1,5 @@
 // How near a chip's lows came to being misread: of those read on each side of the threshold, the nearest.
+#![tactic(auto)]
 ghost use Rattle.std.specs.Prelude.{◌≡◌};
 ghost use Rattle.std.specs.Int.Signed.{lt_z};
 ghost use Rattle.margins.specs.Margins.{margins_outside, nearer_one, nearer_zero, nearest, nearest_one, nearest_zero, reads_bit, told, told_margin, with_bit, with_pulse};
@@ -8,14 +9,14 @@ use phases::Phase;
 use units::Distance;
 
 // The nearest low of one side, by its distance from the threshold; none until one was read there.
-#[derive(Drop)]
+#[derive(Clone, Copy)]
 pub enum Margin {
     None,
     At(Distance),
 }
 
 // The nearest 1, and the nearest 0.
-#[derive(Drop)]
+#[derive(Clone, Copy)]
 pub struct Nearest {
     pub one: Margin,
     pub zero: Margin,
@@ -23,7 +24,7 @@ pub struct Nearest {
 
 // The same as a chip keeps it: where none was read stands a distance that no low has, farther than all, so that the first low is nearer.
 // `nearest` tells.
-#[derive(Drop)]
+#[derive(Clone, Copy)]
 pub struct Margins {
     pub one: Distance,
     pub zero: Distance,

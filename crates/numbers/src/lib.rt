@@ -1,4 +1,5 @@
 // Numbers of a trace: groups of seven bits, the lowest first, the top bit set where more follow, in their shortest form.
+#![tactic(auto)]
 ghost use Rattle.std.specs.Prelude.{◌≡◌};
 ghost use Rattle.numbers.specs.Numbers.{groups, bound, limited, number_at};
 
@@ -11,14 +12,14 @@ pub const GROUPS: u32 = 5;
 pub const BOUND: u64 = 4_294_967_296;
 
 // A number, and the place after it.
-#[derive(Drop)]
+#[derive(Clone, Copy)]
 pub struct Number {
     pub value: u64,
     pub next: Bytes,
 }
 
 // What stands at a place: nothing more, no good number, or one.
-#[derive(Drop)]
+#[derive(Clone, Copy)]
 pub enum Found {
     End,
     Bad,

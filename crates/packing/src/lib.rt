@@ -1,4 +1,5 @@
 // What a serial byte holds: a pair, or as many of a run's next bits as its packing allows.
+#![tactic(auto)]
 ghost use Rattle.std.specs.Prelude.{◌≡◌};
 ghost use Rattle.packing.specs.Phases.{in_bits, in_pairs};
 ghost use Rattle.packing.specs.Filling.{filled, goes_into, goes_on, most, paired, sent_at};
@@ -8,7 +9,7 @@ use load::Load;
 use place::{Carries, Phase, Place};
 
 // How many bits a byte holds at most: one, three, or as many as fit, so that the bytes are the fewest.
-#[derive(Drop)]
+#[derive(Clone, Copy)]
 pub enum Packing {
     One,
     Three,
@@ -16,7 +17,7 @@ pub enum Packing {
 }
 
 // A byte being filled: its frame, the place of the next bit, and whether that bit may join it.
-#[derive(Drop)]
+#[derive(Clone, Copy)]
 pub struct Filling {
     pub frame: Frame,
     pub place: Place,

@@ -1,4 +1,5 @@
 // A view of either memory, page by page.
+#![tactic(auto)]
 ghost use Rattle.std.specs.Prelude.{◌≡◌};
 ghost use Rattle.pages.specs.Page.{chosen, page_bytes, page_start};
 
@@ -8,7 +9,7 @@ use units::Bytes;
 const PAGE: usize = Bytes::PAGE.0;
 
 // One of the two memories.
-#[derive(Drop)]
+#[derive(Clone, Copy)]
 pub enum Memory {
     Ram,
     Eeprom,

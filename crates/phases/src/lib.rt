@@ -1,4 +1,5 @@
 // The phases of a chip: what the next pulse is to it, from the calibration to its ending.
+#![tactic(auto)]
 ghost use Rattle.std.specs.Prelude.{◌≡◌};
 ghost use Rattle.phases.specs.Endings.{end_at, told_end};
 ghost use Rattle.phases.specs.Phases.{ended};
@@ -8,7 +9,7 @@ ghost use Rattle.phases.specs.Ranges.{least_acknowledged, least_after, long_outs
 use units::{Longs, Loops};
 
 // What the chip acknowledges: the load stored with a good checksum, the programming, the verification; or that one of them failed.
-#[derive(Drop)]
+#[derive(Clone, Copy)]
 pub enum Acknowledgement {
     Stored,
     Programmed,
@@ -17,14 +18,14 @@ pub enum Acknowledgement {
 }
 
 // A bit that the chip replies: bit k of its connection, 250 draws and then 8 version bits, or an acknowledgement.
-#[derive(Drop)]
+#[derive(Clone, Copy)]
 pub enum Reply {
     Connection(u32),
     Acknowledging(Acknowledgement),
 }
 
 // How the chip ends: launched from download, launched from EEPROM, shut down, or off chart.
-#[derive(Drop)]
+#[derive(Clone, Copy)]
 pub enum Ending {
     Launched,
     Booted,
@@ -36,7 +37,7 @@ pub enum Ending {
 // its draw; the first pulse of a reply; the rest of it; a bit of the command, of the size, or of a long of the image, each with the
 // number of bits before it and those bits, shifted in from the top, and a long with its own number between them; a pulse to align on;
 // or nothing any more.
-#[derive(Drop)]
+#[derive(Clone, Copy)]
 pub enum Phase {
     First,
     Second(Loops),
@@ -51,7 +52,7 @@ pub enum Phase {
 }
 
 // Whether a chip still listens, or how it has ended.
-#[derive(Drop)]
+#[derive(Clone, Copy)]
 pub enum ChipEnd {
     Listening,
     Ended(Ending),

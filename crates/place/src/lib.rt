@@ -1,4 +1,5 @@
 // Where a session stands, without time: its phases, each with its pulses, and its endings.
+#![tactic(auto)]
 ghost use Rattle.std.specs.Prelude.{◌≡◌};
 ghost use Rattle.place.specs.Endings.{end_at, number, told_end};
 ghost use Rattle.place.specs.Phases.{carries, ended, places};
@@ -8,7 +9,7 @@ mod pulses;
 use load::Load;
 
 // What the host waits for when it waits for an acknowledgement.
-#[derive(Drop)]
+#[derive(Clone, Copy)]
 pub enum Acknowledgement {
     Ram,
     Programming,
@@ -17,7 +18,7 @@ pub enum Acknowledgement {
 
 // How a session ends. It is lost by silence in a connection or version pair, by a wrong connection bit, or by silence in a wait's
 // last pair.
-#[derive(Drop)]
+#[derive(Clone, Copy)]
 pub enum Ending {
     Done,
     Lost,
@@ -29,7 +30,7 @@ pub enum Ending {
 
 // What a session is at. A version holds the bits of it that were seen so far, shifted in from the top; `Zeros` are the 32 zero bits
 // after a wrong version.
-#[derive(Drop)]
+#[derive(Clone, Copy)]
 pub enum Phase {
     Calibration,
     Handshake,
@@ -45,7 +46,7 @@ pub enum Phase {
 
 // What a phase carries: pairs, each the bits 1, 0; the bits of the handshake, of a value or of the image; or nothing, once the session
 // has ended.
-#[derive(Drop)]
+#[derive(Clone, Copy)]
 pub enum Carries {
     Pairs,
     Bits,
@@ -53,14 +54,14 @@ pub enum Carries {
 }
 
 // Whether a session goes on, or how it has ended.
-#[derive(Drop)]
+#[derive(Clone, Copy)]
 pub enum HostEnd {
     Going,
     Ended(Ending),
 }
 
 // The next pulse to send: the phase, and the number of its pulses that were sent.
-#[derive(Drop)]
+#[derive(Clone, Copy)]
 pub struct Place {
     pub phase: Phase,
     pub index: u32,

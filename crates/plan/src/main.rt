@@ -1,6 +1,7 @@
 // Plans the image on standard input by the bench figures that it is given as arguments, T H P LOOP COMMAND PHASES, plays it to a chip whose
 // EEPROM has no fault, and prints what came of it: where PHASES is 0 the lines of `planned`, the exact seconds and the margins, where it is 1
 // the ticks of each phase and their sum; or the number of a refusal.
+#![tactic(auto)]
 use eeprom::Fault;
 use figures::Figure;
 use joined::{Ran, Report};

@@ -1,4 +1,5 @@
 // A trace reader: the lent trace with a place in it.
+#![tactic(auto)]
 ghost use Rattle.std.specs.Prelude.{◌≡◌};
 ghost use Rattle.numbers.specs.Numbers.{groups, bound, number_at};
 
@@ -6,7 +7,7 @@ use numbers::Found;
 use units::Bytes;
 
 // A lent trace, and a place in it.
-#[derive(Drop)]
+#[derive(Clone, Copy)]
 pub struct Reader<'a> {
     pub trace: &'a [u8],
     pub at: Bytes,

@@ -1,5 +1,6 @@
 // A chip without memories, in time: what it has heard, how many loops are left of its countdown, and how near its lows came to being
 // misread.
+#![tactic(auto)]
 ghost use Rattle.std.specs.Prelude.{◌≡◌};
 ghost use Rattle.receiver.specs.Hears.{counted, hears, settled};
 ghost use Rattle.receiver.specs.Ranges.{receiver_outside};
@@ -12,7 +13,7 @@ use phases::Phase;
 use units::Loops;
 
 // A chip that listens, what is left of its countdown, and its margins.
-#[derive(Drop)]
+#[derive(Clone, Copy)]
 pub struct Receiver {
     pub listener: Listener,
     pub left: Loops,
@@ -20,7 +21,7 @@ pub struct Receiver {
 }
 
 // What a pulse leads to, late or read, what is then left, and the margins with it.
-#[derive(Drop)]
+#[derive(Clone, Copy)]
 pub struct Received {
     pub heard: Heard,
     pub left: Loops,

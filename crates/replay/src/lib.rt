@@ -1,4 +1,5 @@
 // Recorded traces, played to a chip.
+#![tactic(auto)]
 ghost use Rattle.std.specs.Prelude.{◌≡◌};
 ghost use Rattle.replay.specs.Replay.{left, outcome, replay_of, told_replayed, told_report};
 
@@ -12,14 +13,14 @@ use phases::ChipEnd;
 use trace::Judged;
 
 // What a replay came to: how the chip ended, or that it still listens, and the nearest 1 and 0 that it read.
-#[derive(Drop)]
+#[derive(Clone, Copy)]
 pub struct Report {
     pub chip: ChipEnd,
     pub nearest: Nearest,
 }
 
 // What `replay` answers: a refusal by its number, or what the replay came to.
-#[derive(Drop)]
+#[derive(Clone, Copy)]
 pub enum Replayed {
     Refused(u8),
     Finished(Report),

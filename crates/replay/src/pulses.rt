@@ -6,7 +6,7 @@ use numbers::{Found, Number};
 use units::{Bytes, Loops};
 
 // A pulse: its wait, its low, and the place after it.
-#[derive(Drop)]
+#[derive(Clone, Copy)]
 pub(crate) struct Pulse {
     pub(crate) wait: Loops,
     pub(crate) low: Loops,
@@ -14,7 +14,7 @@ pub(crate) struct Pulse {
 }
 
 // What stands at a place: no whole pulse, or one.
-#[derive(Drop)]
+#[derive(Clone, Copy)]
 pub(crate) enum Recorded {
     End,
     Pulse(Pulse),

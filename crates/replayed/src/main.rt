@@ -1,6 +1,7 @@
 // Plays the trace on standard input to a fresh chip, over RAM of zeros and an EEPROM without a fault, and prints where that leaves the chip
 // and its margins, or the number of a refusal. The EEPROM is zeros too; where a number is given as an argument it is that many bytes of
 // standard input, and the trace is what follows them.
+#![tactic(auto)]
 ghost use Rattle.std.specs.Prelude.{◌≡◌, length};
 
 use eeprom::Fault;

@@ -9,7 +9,7 @@ const CALLS: u32 = 1_651;
 
 // What the chip answers: whether it connects, its version, the pair of each wait that it answers, from 0, and the wait that it answers
 // with a 1, from 1.
-#[derive(Drop)]
+#[derive(Clone, Copy)]
 struct Chip {
     connects: bool,
     version: u32,
@@ -122,7 +122,7 @@ fn begin(packing: Packing, command: u32, image: &[u8], chip: Chip) {
 }
 
 // A session, and what was sent: bytes, their sum, and calls.
-#[derive(Drop)]
+#[derive(Clone, Copy)]
 struct Progress {
     serial: Serial,
     bytes: u32,

@@ -1,11 +1,12 @@
 // For which chips a load by some settings is proved to succeed.
+#![tactic(auto)]
 ghost use Rattle.std.specs.Prelude.{◌≡◌};
 ghost use Rattle.safe.specs.Safe.{largest_loop, loops_of, safe_of};
 
 use settings::Settings;
 
 // The chips' loops for which demand 3's margin holds: none of a real chip's, or all from 400,000 ps up to so many.
-#[derive(Drop)]
+#[derive(Clone, Copy)]
 pub enum Reach {
     None,
     UpTo(u32),

@@ -1,4 +1,5 @@
 // The session as serial bytes: a start, and one byte a step.
+#![tactic(auto)]
 ghost use Rattle.std.specs.Prelude.{◌≡◌};
 ghost use Rattle.place.specs.Endings.{end_at, told_end};
 ghost use Rattle.serial.specs.Phases.{awaits};
@@ -12,7 +13,7 @@ use packing::Packing;
 use place::{HostEnd, Phase, Place};
 
 // What the wire carries in one direction, for one call: nothing, or a byte.
-#[derive(Drop)]
+#[derive(Clone, Copy)]
 pub enum Wire {
     Nothing,
     Byte(u8),
@@ -20,7 +21,7 @@ pub enum Wire {
 
 // A serial session: what it loads, where it is, and its packing, which stands last because the padding after it would be copied at every
 // step. After a pair's byte it stands at the pair's second pulse: what comes back for the byte decides what follows.
-#[derive(Drop)]
+#[derive(Clone, Copy)]
 pub struct Serial {
     pub load: Load,
     pub place: Place,
@@ -28,21 +29,21 @@ pub struct Serial {
 }
 
 // What `Serial::start` answers: a refusal by its number, or the session before its first byte.
-#[derive(Drop)]
+#[derive(Clone, Copy)]
 pub enum Started {
     Refused(u8),
     Taken(Serial),
 }
 
 // What a call sends, and the session after it. It sends nothing where what came back ended the session.
-#[derive(Drop)]
+#[derive(Clone, Copy)]
 pub struct Turn {
     pub sent: Wire,
     pub serial: Serial,
 }
 
 // What `Serial::step` answers: a refusal by its number, or the turn.
-#[derive(Drop)]
+#[derive(Clone, Copy)]
 pub enum Stepped {
     Refused(u8),
     Taken(Turn),

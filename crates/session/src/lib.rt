@@ -1,4 +1,5 @@
 // The session that a host sends, without time: what it loads, where it stands, and what it has sent.
+#![tactic(auto)]
 ghost use Rattle.std.specs.Prelude.{◌≡◌, false};
 ghost use Rattle.session.specs.Ranges.{session_outside};
 ghost use Rattle.session.specs.Step.{counted, fresh, pulse_of, session_start, session_step, told_started, told_stepped};
@@ -10,7 +11,7 @@ use place::{Phase, Place};
 use units::Seen;
 
 // A session: what it loads, where it is, and the numbers of pulses, ones and zeros sent.
-#[derive(Drop)]
+#[derive(Clone, Copy)]
 pub struct Session {
     pub load: Load,
     pub place: Place,
@@ -20,14 +21,14 @@ pub struct Session {
 }
 
 // What `Session::start` answers: a refusal by its number, or the session.
-#[derive(Drop)]
+#[derive(Clone, Copy)]
 pub enum Started {
     Refused(u8),
     Taken(Session),
 }
 
 // A pulse sent: its bit, whether it ends a silent pair of a wait, and the session after it.
-#[derive(Drop)]
+#[derive(Clone, Copy)]
 pub struct Pulse {
     pub bit: bool,
     pub silent: bool,
@@ -35,7 +36,7 @@ pub struct Pulse {
 }
 
 // What `Session::step` answers: a refusal by its number, or the pulse that it sends.
-#[derive(Drop)]
+#[derive(Clone, Copy)]
 pub enum Stepped {
     Refused(u8),
     Sent(Pulse),

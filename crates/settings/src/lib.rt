@@ -1,10 +1,11 @@
 // The settings of a bench.
+#![tactic(auto)]
 ghost use Rattle.std.specs.Prelude.{◌≡◌};
 ghost use Rattle.settings.specs.Settings.{checked, outside, settings_outside, slow, told_checked};
 
 // The figures of a bench: the unit time `t` and the spacer `h` in ns, the tick `p` in ps. With a real chip keep `h` at least `t`: see
 // docs/LIMITS.md.
-#[derive(Drop)]
+#[derive(Clone, Copy)]
 pub struct Settings {
     pub t: u32,
     pub h: u32,
@@ -12,7 +13,7 @@ pub struct Settings {
 }
 
 // What `Settings::new` answers: a refusal by its number, or the settings.
-#[derive(Drop)]
+#[derive(Clone, Copy)]
 pub enum Checked {
     Refused(u8),
     Taken(Settings),

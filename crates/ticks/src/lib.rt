@@ -1,5 +1,6 @@
 // The ticks of a session's ten phases. A phase runs from its first fall to the next phase's first fall, and the last one so far to the last
 // rise, so that the ten add up to the tick of the last rise.
+#![tactic(auto)]
 ghost use Rattle.std.specs.Prelude.{◌≡◌, ◌-◌};
 ghost use Rattle.ticks.specs.Ticks.{added, less, more, phase_number, rest_of, spacer_before, told_spacer, wait_number, with_pulse};
 
@@ -8,7 +9,7 @@ use units::Ticks;
 
 // The ticks of each phase so far, in the order in which they come; 0 for one that was not reached. The 32 zeros after a wrong version are
 // of the command, and the last three are the acknowledgements.
-#[derive(Drop)]
+#[derive(Clone, Copy)]
 pub struct PhaseTicks {
     pub calibration: Ticks,
     pub handshake: Ticks,
@@ -23,7 +24,7 @@ pub struct PhaseTicks {
 }
 
 // What `PhaseTicks::spacer_before` answers: the ten add up past the fall, or the ticks from the last rise to it.
-#[derive(Drop)]
+#[derive(Clone, Copy)]
 pub enum Spacer {
     Past,
     Of(Ticks),

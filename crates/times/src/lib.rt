@@ -1,5 +1,6 @@
 // How long a planned session takes with the settings of a bench, exactly and in closed form: every low and every spacer is a whole number
 // of nanoseconds. And what the old bench said, which cut each of them to whole microseconds before it added.
+#![tactic(auto)]
 ghost use Rattle.std.specs.Prelude.{false, ◌≡◌, ◌+◌, ◌*◌, ◌≤◌, max};
 ghost use Rattle.terms.specs.Choice.{either};
 ghost use Rattle.settings.specs.Settings.{settings_outside};
@@ -11,7 +12,7 @@ use settings::Settings;
 
 // The exact times of a plan: each phase of one tracker, one tracker, and all of them, in ns; and the old bench's figures of one tracker and
 // of all, in us.
-#[derive(Drop)]
+#[derive(Clone, Copy)]
 pub struct Times {
     pub calibration: u64,
     pub handshake: u64,
@@ -30,7 +31,7 @@ pub struct Times {
 }
 
 // What `Times::of` answers: a refusal by its number, or the times.
-#[derive(Drop)]
+#[derive(Clone, Copy)]
 pub enum Timed {
     Refused(u8),
     Taken(Times),

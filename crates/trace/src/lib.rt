@@ -1,4 +1,5 @@
 // Trace files: the number 1, then the waits and lows of pulses by turns, in loops.
+#![tactic(auto)]
 ghost use Rattle.std.specs.Prelude.{false, ◌≡◌, length, ◌≤◌};
 ghost use Rattle.trace.specs.Traces.{judgement, left, numbers_of, told_judged, told_wrote, verdict, writes};
 
@@ -8,14 +9,14 @@ use numbers::Found;
 use units::Bytes;
 
 // What `judge` answers: that the file is good, or a refusal by its number.
-#[derive(Drop)]
+#[derive(Clone, Copy)]
 pub enum Judged {
     Good,
     Refused(u8),
 }
 
 // What `write` answers: a refusal by its number, or the file's length.
-#[derive(Drop)]
+#[derive(Clone, Copy)]
 pub enum Wrote {
     Refused(u8),
     Taken(Bytes),

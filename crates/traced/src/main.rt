@@ -1,6 +1,7 @@
 // Plans the image on standard input by the bench figures that it is given as arguments, T H P LOOP COMMAND, plays it to a chip whose EEPROM
 // has no fault, and writes the waits and lows that the chip measures as a trace file, each count of loops rounded down; or prints the number
 // of a refusal.
+#![tactic(auto)]
 ghost use Rattle.std.specs.Prelude.{◌≡◌, length};
 
 use chip::{Chip, Played, Stepped};
@@ -92,7 +93,7 @@ fn plan(t: u32, h: u32, p: u32, l: u32, command: u32, image: &[u8]) {
 }
 
 // Host and chip between two pulses: the tick of the last rise, and what the chip replied to the last pulse.
-#[derive(Drop)]
+#[derive(Clone, Copy)]
 struct Joined {
     host: Host,
     chip: Chip,

@@ -1,30 +1,31 @@
 // The four units that the bench and the ROM count in, how far two counts of loops lie apart, and what the host sees on the line. A count
 // crosses from one unit to another by the conversions here and in no other way.
+#![tactic(auto)]
 ghost use Rattle.std.specs.Prelude.{◌≡◌, min, nat_abs};
 ghost use Rattle.units.specs.Units.{most, longs_in, bytes_in, end_of, loops_of, loops_in, difference};
 
 // Ticks of the bench's clock.
-#[derive(Drop)]
+#[derive(Clone, Copy)]
 pub struct Ticks(pub u64);
 
 // Loops of the chip's wait for an edge: the ROM counts them in 32 bits.
-#[derive(Drop)]
+#[derive(Clone, Copy)]
 pub struct Loops(pub u32);
 
 // A count of loops less another. 64 bits hold it for any two counts.
-#[derive(Drop)]
+#[derive(Clone, Copy)]
 pub struct Distance(pub i64);
 
 // Bytes of an image or of a memory.
-#[derive(Drop)]
+#[derive(Clone, Copy)]
 pub struct Bytes(pub usize);
 
 // Longs of four bytes: the ROM takes their number in 32 bits.
-#[derive(Drop)]
+#[derive(Clone, Copy)]
 pub struct Longs(pub u32);
 
 // What the host sees around a pulse, and what the chip replies at its rise.
-#[derive(Drop)]
+#[derive(Clone, Copy)]
 pub enum Seen {
     Silence,
     Zero,

@@ -1,6 +1,7 @@
 // Runs the cases of the table on standard input: those that 01 asks to be run and compared, and the case that tells each plausible error.
 // A line of it that starts with `#` is a comment, one that is indented by two spaces is a case, printed with what came of it, and any other
 // is a heading, printed as it is.
+#![tactic(auto)]
 mod case;
 mod fed;
 mod print;

@@ -27,7 +27,7 @@ const REPLIED: u32 = 3;
 
 // The pulses that the case names, from the first to the last, counted from 1: the loops of the wait before each, and of its low as a 1 and
 // as a 0, which the chip measures; or what the host sees around it.
-#[derive(Drop)]
+#[derive(Clone, Copy)]
 struct Named {
     first: u32,
     last: u32,
@@ -38,7 +38,7 @@ struct Named {
 }
 
 // Both sides once the pulses are over, and the tick of the last rise.
-#[derive(Drop)]
+#[derive(Clone, Copy)]
 struct Stopped {
     host: Host,
     chip: Chip,
