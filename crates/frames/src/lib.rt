@@ -1,5 +1,6 @@
 // How bits stand in a serial byte: each is a low run on the line with one high bit time after it.
 #![tactic(auto)]
+
 ghost use Rattle.std.specs.Prelude.{◌≡◌};
 ghost use Rattle.frames.specs.Frames.{byte_of, fits, lows_of, width, with};
 

@@ -1,5 +1,6 @@
 // What is read off lent bytes, whether of an image or of a memory: a word at a place, the total, and the sum of one byte.
 #![tactic(auto)]
+
 ghost use Rattle.std.specs.Prelude.{◌≡◌, ◌%◌, ◌^◌, slice_index};
 ghost use Rattle.lent.specs.Bytes.{word_at, total};
 

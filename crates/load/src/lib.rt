@@ -1,5 +1,6 @@
 // What a start accepts beside its settings: a command with its image.
 #![tactic(auto)]
+
 ghost use Rattle.std.specs.Prelude.{◌≡◌};
 ghost use Rattle.load.specs.Load.{accepted, load_outside, other_image, told_accepted};
 

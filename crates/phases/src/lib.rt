@@ -1,5 +1,6 @@
 // The phases of a chip: what the next pulse is to it, from the calibration to its ending.
 #![tactic(auto)]
+
 ghost use Rattle.std.specs.Prelude.{◌≡◌};
 ghost use Rattle.phases.specs.Endings.{end_at, told_end};
 ghost use Rattle.phases.specs.Phases.{ended};

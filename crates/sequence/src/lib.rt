@@ -1,5 +1,6 @@
 // The bit sequence by which host and chip know each other: an 8-bit state, its advance, and the numbered draws.
 #![tactic(auto)]
+
 ghost use Rattle.std.specs.Prelude.{◌≡◌};
 ghost use Rattle.sequence.specs.Sequence.{advanced, draw};
 

@@ -1,5 +1,6 @@
 // The settings of a bench.
 #![tactic(auto)]
+
 ghost use Rattle.std.specs.Prelude.{◌≡◌};
 ghost use Rattle.settings.specs.Settings.{checked, outside, settings_outside, slow, told_checked};
 

@@ -1,6 +1,7 @@
 // The four units that the bench and the ROM count in, how far two counts of loops lie apart, and what the host sees on the line. A count
 // crosses from one unit to another by the conversions here and in no other way.
 #![tactic(auto)]
+
 ghost use Rattle.std.specs.Prelude.{◌≡◌, min, nat_abs};
 ghost use Rattle.units.specs.Units.{most, longs_in, bytes_in, end_of, loops_of, loops_in, difference};
 
