@@ -10,19 +10,12 @@ use mir.Val.{bool_byte}
 use Rattle.line.specs.Reading.{grown}
 use Rattle.terms.specs.Choice.{when}
 use borrow.Author.Rules.{rules}
-use Rattle.line.proofs.grown.Statement.{statement}
-use Rattle.line.proofs.grown.Tie as tie
+use Rattle.line.proofs.grown.Goals as goal
 
 shifted_in : (v : ℕ) (b : Bool) → v < 4294967296 → bit_or (v / 2) (bool_byte b * 2147483648 % 4294967296) ≡ grown v b
 unfolding grown when
 shifted_in v true h = or_shifted_r 1 31 (v / 2) (omega (arith, h)) ∙ add_comm 2147483648 (v / 2)
 shifted_in v false h = or_shifted_r 0 31 (v / 2) (omega (arith, h)) ∙ add_comm 0 (v / 2)
 
-cast-result : tie.Need-overflow-cast-result
-cast-result c = search rules
-
-returns : tie.Need-returns
+pub returns : goal.returns
 returns c = shifted_in c.args.value c.args.bit (search rules)
-
-pub grown-spec : {M : Type 1} → statement M
-grown-spec = tie.close (tie.spec cast-result returns)
