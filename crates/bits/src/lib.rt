@@ -1,5 +1,6 @@
 // What a session sends and sees, by its phase and the pulse's number there: the bit of each pulse, and what the chip's reply is to it.
 #![tactic(auto)]
+
 ghost use Rattle.std.specs.Prelude.{◌≡◌, ◌+◌};
 ghost use Rattle.sequence.specs.Sequence.{draw};
 ghost use Rattle.units.specs.Units.{longs_in};

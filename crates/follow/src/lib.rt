@@ -1,5 +1,6 @@
 // What follows a pulse: the next place, the endings, and the silent pairs of a wait.
 #![tactic(auto)]
+
 ghost use Rattle.std.specs.Prelude.{◌≡◌};
 ghost use Rattle.follow.specs.Follow.{ends_silent_pair, next, onward};
 

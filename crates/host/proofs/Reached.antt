@@ -5,15 +5,14 @@ use mathlib.Core.List.{List}
 use mathlib.Core.Logic.{inl, inr}
 use mathlib.Core.Path.{◌≡◌, sym, ◌∙◌}
 use Prim.Native.Nat.{ℕ}
-use Rattle.terms.specs.Refusals.{refused, taken}
+use Rattle.terms.specs.Refusals.{refused}
 use Rattle.terms.proofs.Refusals.{refused_exactly}
 use Rattle.session.specs.Step.{pulse_of}
 use Rattle.session.proofs.Reached.{no_13}
 use Rattle.units.specs.declared.Seen.{Seen}
 use Rattle.host.specs.Reached.{Reached, started, stepped}
-use Rattle.host.specs.Step.{host_start, host_rows, timed, host_step}
+use Rattle.host.specs.Step.{host_rows, timed, host_step}
 use Rattle.host.specs.declared.Host.{Host}
-use Rattle.host.specs.declared.Sent.{Sent}
 use Rattle.host.proofs.Kept.{Kept, start_keeps, step_keeps}
 
 pub reached_kept : (x : Host) → Reached x → Kept x

@@ -1,5 +1,6 @@
 // The host planner: a session in time, one pulse a step.
 #![tactic(auto)]
+
 ghost use Rattle.std.specs.Prelude.{◌≡◌};
 ghost use Rattle.place.specs.Endings.{end_at, told_end};
 ghost use Rattle.host.specs.Step.{host_start, host_step, told_begun, told_planned};

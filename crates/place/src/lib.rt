@@ -1,5 +1,6 @@
 // Where a session stands, without time: its phases, each with its pulses, and its endings.
 #![tactic(auto)]
+
 ghost use Rattle.std.specs.Prelude.{◌≡◌};
 ghost use Rattle.place.specs.Endings.{end_at, number, told_end};
 ghost use Rattle.place.specs.Phases.{carries, ended, places};

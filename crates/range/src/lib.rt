@@ -1,5 +1,6 @@
 // The range of a place: whether a load's session has it, and how many pulses can come before it.
 #![tactic(auto)]
+
 ghost use Rattle.std.specs.Prelude.{◌≡◌, ◌+◌};
 ghost use Rattle.range.specs.Ranges.{before, place_outside};
 

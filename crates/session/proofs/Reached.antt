@@ -6,12 +6,11 @@ use mathlib.Core.Path.{◌≡◌, sym, ◌∙◌}
 use Prim.Native.Nat.{ℕ}
 use mathlib.Core.Logic.{inl, inr}
 use native.Mathlib.Omega.{arith}
-use Rattle.terms.specs.Refusals.{refused, taken, Given}
+use Rattle.terms.specs.Refusals.{refused, Given}
 use Rattle.terms.proofs.Refusals.{refused_exactly}
 use Rattle.units.specs.declared.Seen.{Seen}
 use Rattle.session.specs.Reached.{Reached, started, stepped}
-use Rattle.session.specs.Step.{session_start, step_rows, pulse_of, session_step}
-use Rattle.session.specs.declared.Pulse.{Pulse}
+use Rattle.session.specs.Step.{step_rows, pulse_of, session_step}
 use Rattle.session.specs.declared.Session.{Session}
 use Rattle.session.proofs.Kept.{start_keeps, step_keeps}
 use Rattle.session.proofs.Within.{Within, session_within}

@@ -1,5 +1,6 @@
 // The session that a host sends, without time: what it loads, where it stands, and what it has sent.
 #![tactic(auto)]
+
 ghost use Rattle.std.specs.Prelude.{◌≡◌, false};
 ghost use Rattle.session.specs.Ranges.{session_outside};
 ghost use Rattle.session.specs.Step.{counted, fresh, pulse_of, session_start, session_step, told_started, told_stepped};

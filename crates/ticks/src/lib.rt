@@ -1,6 +1,7 @@
 // The ticks of a session's ten phases. A phase runs from its first fall to the next phase's first fall, and the last one so far to the last
 // rise, so that the ten add up to the tick of the last rise.
 #![tactic(auto)]
+
 ghost use Rattle.std.specs.Prelude.{◌≡◌, ◌-◌};
 ghost use Rattle.ticks.specs.Ticks.{added, less, more, phase_number, rest_of, spacer_before, told_spacer, wait_number, with_pulse};
 
