@@ -1,5 +1,6 @@
 // A chip's countdown: what draws on it, and where it is set again.
 #![tactic(auto)]
+
 ghost use Rattle.std.specs.Prelude.{◌≡◌};
 ghost use Rattle.countdown.specs.Countdown.{aligns, anew, counting, drawn, left_outside, most_left};
 

@@ -1,6 +1,7 @@
 // The EEPROM with its fault, and the work between it and RAM, both lent: programming, verification and boot. Where one of them is not of
 // its size, no page is accepted and nothing is booted.
 #![tactic(auto)]
+
 ghost use Rattle.std.specs.Prelude.{◌≡◌};
 ghost use Rattle.eeprom.specs.Eeprom.{booted, boots, fault_outside, programmed, programming, verifies};
 

@@ -1,5 +1,6 @@
 // What passes on the line: how the chip reads a low, and the bits that it replies.
 #![tactic(auto)]
+
 ghost use Rattle.std.specs.Prelude.{◌≡◌, pos};
 ghost use Rattle.std.specs.Int.Signed.{lt_z};
 ghost use Rattle.line.specs.Reading.{distance_of, grown, reads, threshold_of};

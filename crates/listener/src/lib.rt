@@ -1,6 +1,7 @@
 // The chip as it listens, without memories: how it reads a pulse, where that leads, what it replies, and which work on the memories it
 // calls for.
 #![tactic(auto)]
+
 ghost use Rattle.std.specs.Prelude.{◌≡◌};
 ghost use Rattle.listener.specs.Heard.{heard};
 ghost use Rattle.listener.specs.Settled.{settled};

@@ -12,7 +12,7 @@ use Rattle.terms.proofs.Tests.{when_elim, either_false}
 use Rattle.phases.specs.declared.Phase.{Phase}
 use Rattle.line.specs.Reading.{reads, distance_of}
 use Rattle.line.proofs.Distances.{distance_elim}
-use Rattle.margins.specs.Margins.{reads_bit, nearer_one, nearer_zero, with_bit, with_pulse, margins_outside}
+use Rattle.margins.specs.Margins.{reads_bit, with_bit, with_pulse, margins_outside}
 use Rattle.margins.specs.declared.Margins.{Margins}
 
 -- Both sides, as a record within its ranges has them.

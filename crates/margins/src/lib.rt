@@ -1,5 +1,6 @@
 // How near a chip's lows came to being misread: of those read on each side of the threshold, the nearest.
 #![tactic(auto)]
+
 ghost use Rattle.std.specs.Prelude.{◌≡◌};
 ghost use Rattle.std.specs.Int.Signed.{lt_z};
 ghost use Rattle.margins.specs.Margins.{margins_outside, nearer_one, nearer_zero, nearest, nearest_one, nearest_zero, reads_bit, told, told_margin, with_bit, with_pulse};

@@ -1,5 +1,6 @@
 // What a load makes of RAM, which is lent: longs stored, the rest zeroed, the flag longs and the checksum; and the launch test.
 #![tactic(auto)]
+
 ghost use Rattle.std.specs.Prelude.{◌≡◌};
 ghost use Rattle.ram.specs.Ram.{finished, launches, stored, sums_to_zero};
 
