@@ -1,5 +1,6 @@
 // Cases as lines of text: a line names what its case changes, each name with its number behind it.
 #![tactic(auto)]
+
 ghost use Rattle.std.specs.Prelude.{◌≡◌, ◌≤◌, drop};
 ghost use Rattle.cases.specs.Cases.{line_end, next_line, line_start, line_bytes, line_place, begin, behind, starts_with_digit, grown, value_from, number};
 

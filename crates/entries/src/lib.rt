@@ -1,6 +1,7 @@
 // A line of a settings file: NAME T H P, apart by spaces or tabs; what follows a # is a comment, and a carriage return at the line's end
 // does not count.
 #![tactic(auto)]
+
 ghost use Rattle.std.specs.Prelude.{◌≡◌};
 ghost use Rattle.figures.specs.Figures.{figure_of};
 ghost use Rattle.entries.specs.Entries.{ends_content, content_length, content_of, is_blank, skipped, word_end, word_start, word_bytes, word_place, no_word, is_between, may_be_named, is_name, setting_of, entry_of};

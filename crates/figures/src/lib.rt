@@ -1,5 +1,6 @@
 // A bench figure as a caller writes it.
 #![tactic(auto)]
+
 ghost use Rattle.std.specs.Prelude.{◌≡◌};
 ghost use Rattle.figures.specs.Figures.{figure_of, with_digit};
 

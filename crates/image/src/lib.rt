@@ -1,5 +1,6 @@
 // An image made by rule, for the programs that load one: no file has to hold it.
 #![tactic(auto)]
+
 ghost use Rattle.std.specs.Prelude.{◌≡◌};
 ghost use Rattle.image.specs.Longest.{longest_image};
 

@@ -1,5 +1,6 @@
 // Numbers of a trace: groups of seven bits, the lowest first, the top bit set where more follow, in their shortest form.
 #![tactic(auto)]
+
 ghost use Rattle.std.specs.Prelude.{◌≡◌};
 ghost use Rattle.numbers.specs.Numbers.{groups, bound, limited, number_at};
 

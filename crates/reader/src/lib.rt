@@ -1,5 +1,6 @@
 // A trace reader: the lent trace with a place in it.
 #![tactic(auto)]
+
 ghost use Rattle.std.specs.Prelude.{◌≡◌};
 ghost use Rattle.numbers.specs.Numbers.{groups, bound, number_at};
 

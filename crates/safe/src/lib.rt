@@ -1,5 +1,6 @@
 // For which chips a load by some settings is proved to succeed.
 #![tactic(auto)]
+
 ghost use Rattle.std.specs.Prelude.{◌≡◌};
 ghost use Rattle.safe.specs.Safe.{largest_loop, loops_of, safe_of};
 

@@ -1,0 +1,24 @@
+-- `line_end`: the line ends, seen from each place that is reached, where it ends from the first.
+-- Assumes nothing.
+use mathlib.Core.Path.{refl, ◌∙◌}
+use native.Mathlib.Omega.{arith}
+use Rattle.cases.proofs.Places.{end_past, end_here, end_later}
+use Rattle.cases.proofs.line_end.Goals as goal
+
+pub loop-at-init : goal.loop-at-init
+loop-at-init c = refl
+
+pub returns-then-text-at-eq10 : goal.returns-then-text-at-eq10
+returns-then-text-at-eq10 c = end_here _ _ c.loop-at-test.true c.if-text-at-eq10.true ∙ c.loop-at.invariant
+
+pub overflow_add-at : goal.overflow_add-at
+overflow_add-at c = omega arith
+
+pub loop-at-smaller : goal.loop-at-smaller
+loop-at-smaller c = omega arith
+
+pub loop-at-preserved : goal.loop-at-preserved
+loop-at-preserved c = end_later _ _ c.loop-at-test.true c.if-text-at-eq10.false ∙ c.loop-at.invariant
+
+pub returns : goal.returns
+returns c = end_past _ _ c.loop-at-test.false ∙ c.loop-at.invariant
