@@ -1,6 +1,7 @@
 // A chip without memories, in time: what it has heard, how many loops are left of its countdown, and how near its lows came to being
 // misread.
 #![tactic(auto)]
+
 ghost use Rattle.std.specs.Prelude.{◌≡◌};
 ghost use Rattle.receiver.specs.Hears.{counted, hears, settled};
 ghost use Rattle.receiver.specs.Ranges.{receiver_outside};
