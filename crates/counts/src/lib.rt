@@ -1,5 +1,6 @@
 // What a planned session sends, phase by phase, counted without time. In it the chip answers the second pair of each wait with 0.
 #![tactic(auto)]
+
 ghost use Rattle.std.specs.Prelude.{◌≡◌, ◌+◌, ◌*◌, ◌≤◌, ◌<◌, length};
 ghost use Rattle.terms.specs.Refusals.{taken};
 ghost use Rattle.load.specs.Load.{accepted, load_of};

@@ -1,5 +1,6 @@
 // Trace files: the number 1, then the waits and lows of pulses by turns, in loops.
 #![tactic(auto)]
+
 ghost use Rattle.std.specs.Prelude.{false, ◌≡◌, length, ◌≤◌};
 ghost use Rattle.trace.specs.Traces.{judgement, left, numbers_of, told_judged, told_wrote, verdict, writes};
 
