@@ -2,10 +2,12 @@
 // for each packing, with 1, 3 or 5 it writes the bytes themselves by the packing that holds so many bits a byte at most; or the number of a
 // refusal. bench/serial.rs is the same program in Rust.
 #![tactic(auto)]
+
 use figures::Figure;
 use packing::Packing;
 use place::{HostEnd, Phase, Place};
 use serial::{Serial, Started, Stepped, Wire};
+use std::env::Env;
 
 // No session has more calls: 1,299, and eight for each byte of the image.
 const CALLS: u32 = 263_379;
@@ -31,9 +33,9 @@ struct Progress {
     calls: u32,
 }
 
-fn main() {
-    let command = argument(1);
-    let bits = argument(2);
+fn main(rt: HostRuntime) {
+    let command = argument(&rt, 1);
+    let bits = argument(&rt, 2);
     let Figure::Number(command) = command else {
         return usage();
     };
@@ -47,9 +49,9 @@ fn main() {
 }
 
 // An argument by its number. One that is missing, or too long for a figure, is none.
-fn argument(i: usize) -> Figure {
+fn argument(rt: &impl Env, i: usize) -> Figure {
     let mut text = [0u8; 20];
-    let n = os::arg(i, &mut text);
+    let n = rt.arg(i, &mut text).unwrap_or(0);
     figures::read(&text[..n])
 }
 

@@ -2,6 +2,7 @@
 // stored, of which no more is read than fills the RAM. Where that byte is `-` the load is not finished, so that what finishing takes can be
 // counted: bench/finish does.
 #![tactic(auto)]
+
 use units::Bytes;
 
 fn main() {

@@ -2,21 +2,23 @@
 // EEPROM has no fault, and prints what came of it: where PHASES is 0 the lines of `planned`, the exact seconds and the margins, where it is 1
 // the ticks of each phase and their sum; or the number of a refusal.
 #![tactic(auto)]
+
 use eeprom::Fault;
 use figures::Figure;
 use joined::{Ran, Report};
 use margins::{Margin, Nearest};
 use phases::{ChipEnd, Ending};
+use std::env::Env;
 use ticks::PhaseTicks;
 use units::Ticks;
 
-fn main() {
-    let t = argument(1);
-    let h = argument(2);
-    let p = argument(3);
-    let l = argument(4);
-    let command = argument(5);
-    let phases = argument(6);
+fn main(rt: HostRuntime) {
+    let t = argument(&rt, 1);
+    let h = argument(&rt, 2);
+    let p = argument(&rt, 3);
+    let l = argument(&rt, 4);
+    let command = argument(&rt, 5);
+    let phases = argument(&rt, 6);
     let Figure::Number(t) = t else {
         return usage();
     };
@@ -42,9 +44,9 @@ fn main() {
 }
 
 // An argument by its number. One that is missing, or too long for a figure, is none.
-fn argument(i: usize) -> Figure {
+fn argument(rt: &impl Env, i: usize) -> Figure {
     let mut text = [0u8; 20];
-    let n = os::arg(i, &mut text);
+    let n = rt.arg(i, &mut text).unwrap_or(0);
     figures::read(&text[..n])
 }
 

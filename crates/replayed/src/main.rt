@@ -2,6 +2,7 @@
 // and its margins, or the number of a refusal. The EEPROM is zeros too; where a number is given as an argument it is that many bytes of
 // standard input, and the trace is what follows them.
 #![tactic(auto)]
+
 ghost use Rattle.std.specs.Prelude.{◌≡◌, length};
 
 use eeprom::Fault;
@@ -9,13 +10,14 @@ use figures::Figure;
 use margins::{Margin, Nearest};
 use phases::{ChipEnd, Ending};
 use replay::{Replayed, Report};
+use std::env::Env;
 
 // The bytes of the longest trace that is taken.
 const LONGEST: usize = 4_194_304;
 
-fn main() {
+fn main(rt: HostRuntime) {
     let mut text = [0u8; 20];
-    let n = os::arg(1, &mut text);
+    let n = rt.arg(1, &mut text).unwrap_or(0);
     if n == 0 {
         return with_zeros();
     }

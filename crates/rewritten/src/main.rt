@@ -1,6 +1,7 @@
 // Writes lists of numbers as trace files, into buffers of several lengths that are filled with 170, and prints for each the answer, the
 // eight bytes that then stand there, and the numbers that are read in what was written.
 #![tactic(auto)]
+
 use numbers::{Found, Number};
 use trace::Wrote;
 use units::Bytes;

@@ -2,6 +2,7 @@
 // has no fault, and writes the waits and lows that the chip measures as a trace file, each count of loops rounded down; or prints the number
 // of a refusal.
 #![tactic(auto)]
+
 ghost use Rattle.std.specs.Prelude.{◌≡◌, length};
 
 use chip::{Chip, Played, Stepped};
@@ -10,6 +11,7 @@ use figures::Figure;
 use host::{Begun, Host, Planned, Sent};
 use place::HostEnd;
 use receiver::Receiver;
+use std::env::Env;
 use trace::Wrote;
 use units::{Loops, Seen, Ticks};
 
@@ -30,12 +32,12 @@ fn file() -> [u8; 2_643_621]
     [0; 2_643_621]
 }
 
-fn main() {
-    let t = argument(1);
-    let h = argument(2);
-    let p = argument(3);
-    let l = argument(4);
-    let command = argument(5);
+fn main(rt: HostRuntime) {
+    let t = argument(&rt, 1);
+    let h = argument(&rt, 2);
+    let p = argument(&rt, 3);
+    let l = argument(&rt, 4);
+    let command = argument(&rt, 5);
     let Figure::Number(t) = t else {
         return usage();
     };
@@ -58,9 +60,9 @@ fn main() {
 }
 
 // An argument by its number. One that is missing, or too long for a figure, is none.
-fn argument(i: usize) -> Figure {
+fn argument(rt: &impl Env, i: usize) -> Figure {
     let mut text = [0u8; 20];
-    let n = os::arg(i, &mut text);
+    let n = rt.arg(i, &mut text).unwrap_or(0);
     figures::read(&text[..n])
 }
 
