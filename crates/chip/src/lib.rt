@@ -1,5 +1,6 @@
 // The chip model: one pulse a step, over lent memories.
 #![tactic(auto)]
+
 ghost use Rattle.std.specs.Prelude.{◌≡◌};
 ghost use Rattle.phases.specs.Endings.{end_at, told_end};
 ghost use Rattle.phases.specs.Phases.{ended};

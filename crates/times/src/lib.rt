@@ -1,6 +1,7 @@
 // How long a planned session takes with the settings of a bench, exactly and in closed form: every low and every spacer is a whole number
 // of nanoseconds. And what the old bench said, which cut each of them to whole microseconds before it added.
 #![tactic(auto)]
+
 ghost use Rattle.std.specs.Prelude.{false, ◌≡◌, ◌+◌, ◌*◌, ◌≤◌, max};
 ghost use Rattle.terms.specs.Choice.{either};
 ghost use Rattle.settings.specs.Settings.{settings_outside};
