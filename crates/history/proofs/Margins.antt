@@ -2,7 +2,7 @@
 -- Assumes nothing.
 use mathlib.Core.Bool.{Bool, true, false, true≢false}
 use mathlib.Core.List.{List, [], ◌∷◌}
-use mathlib.Core.Logic.{◌⊎◌, inl, inr}
+use mathlib.Core.Logic.{inl, inr}
 use mathlib.Core.Path.{◌≡◌, refl, sym, subst, ◌∙◌}
 use Prim.Native.Nat.{ℕ, suc, ◌+◌, ◌-◌, ◌≤◌, ◌<◌}
 use native.Mathlib.Nat.{le_refl}
@@ -15,7 +15,7 @@ use Rattle.terms.specs.Choice.{when}
 use Rattle.terms.proofs.Tests.{when_true, when_false}
 use Rattle.line.specs.Reading.{reads, distance_of}
 use Rattle.line.proofs.Distances.{distance_elim}
-use Rattle.countdown.specs.Countdown.{late, most_left}
+use Rattle.countdown.specs.Countdown.{late}
 use Rattle.margins.specs.Margins.{Near, none, at, reads_bit, nearer_one, nearer_zero, with_bit, farthest, nearest_one, nearest_zero, nearest}
 use Rattle.margins.specs.Margins as margins
 use Rattle.margins.specs.declared.Margins.{Margins}

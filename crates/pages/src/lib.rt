@@ -1,5 +1,6 @@
 // A view of either memory, page by page.
 #![tactic(auto)]
+
 ghost use Rattle.std.specs.Prelude.{◌≡◌};
 ghost use Rattle.pages.specs.Page.{chosen, page_bytes, page_start};
 
