@@ -1,6 +1,7 @@
 // Plans the longest session that command 1 has, of the longest image, against the replies of a good chip, and prints what was sent.
 // bench/host.rs is the same program in Rust.
 #![tactic(auto)]
+
 use host::{Begun, Host, Planned};
 use place::{HostEnd, Phase, Place};
 use ticks::PhaseTicks;
