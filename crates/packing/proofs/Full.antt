@@ -12,7 +12,6 @@ use borrow.Author.Tests.{leb-false}
 use Rattle.terms.proofs.Tests.{when_elim, either_true}
 use Rattle.load.specs.declared.Load.{Load}
 use Rattle.follow.specs.Follow.{onward}
-use Rattle.place.specs.declared.Phase.{Phase}
 use Rattle.place.specs.declared.Place.{Place}
 use Rattle.frames.specs.Frames.{width, empty, fits, with, byte_of}
 use Rattle.frames.specs.LowRuns.{low_runs, run}

@@ -1,5 +1,6 @@
 // What a serial byte holds: a pair, or as many of a run's next bits as its packing allows.
 #![tactic(auto)]
+
 ghost use Rattle.std.specs.Prelude.{◌≡◌};
 ghost use Rattle.packing.specs.Phases.{in_bits, in_pairs};
 ghost use Rattle.packing.specs.Filling.{filled, goes_into, goes_on, most, paired, sent_at};
