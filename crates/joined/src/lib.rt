@@ -1,5 +1,6 @@
 // Host and chip joined: a whole run over lent memories.
 #![tactic(auto)]
+
 ghost use Rattle.std.specs.Prelude.{true, ◌≡◌};
 ghost use Rattle.place.specs.Phases.{ended};
 ghost use Rattle.place.specs.declared.HostEnd.TheVariants.{Ended, Going};

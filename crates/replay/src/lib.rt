@@ -1,5 +1,6 @@
 // Recorded traces, played to a chip.
 #![tactic(auto)]
+
 ghost use Rattle.std.specs.Prelude.{◌≡◌};
 ghost use Rattle.replay.specs.Replay.{left, outcome, replay_of, told_replayed, told_report};
 

@@ -1,5 +1,6 @@
 // The session as serial bytes: a start, and one byte a step.
 #![tactic(auto)]
+
 ghost use Rattle.std.specs.Prelude.{◌≡◌};
 ghost use Rattle.place.specs.Endings.{end_at, told_end};
 ghost use Rattle.serial.specs.Phases.{awaits};

@@ -17,7 +17,6 @@ use Rattle.settings.proofs.Exactly.{Fit}
 use Rattle.bits.specs.Bits.{sent_bit}
 use Rattle.follow.specs.Follow.{next, ends_silent_pair}
 use Rattle.host.specs.Time.{low, spacer}
-use Rattle.place.specs.Phases as place
 use Rattle.place.specs.declared.Phase as host_phase
 use Rattle.phases.specs.Phases as chip
 use Rattle.phases.specs.declared.Phase.{Phase}
