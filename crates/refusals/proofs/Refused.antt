@@ -4,7 +4,7 @@
 use mathlib.Core.Bool.{true}
 use mathlib.Core.List.{List, [], ◌∷◌, ◌++◌}
 use mathlib.Core.Logic.{◌⊎◌, inl, inr}
-use mathlib.Core.Path.{◌≡◌, refl, sym, ap, ◌∙◌}
+use mathlib.Core.Path.{◌≡◌, refl, sym, ap, ◌∙◌, subst}
 use Prim.Native.Nat.{ℕ}
 use native.Mathlib.Omega.{arith}
 use Rattle.terms.specs.Refusals.{Row, Answer, refused, taken, first, Given}
@@ -89,7 +89,7 @@ module _ (t h p command : ℕ) (image : List ℕ) (fault : Fault) (l : ℕ) (ram
       let g = (refused_exactly tt m (host_rows_lem ++ start_rows ram eeprom fault)).0 e in
       let told : ran.answer ≡ refused m = ap (λ (x : runs.Left). x.answer) (run_left m g) in
       let same : m ≡ n = cc in
-      rw (← same) g
+      subst (λ (k : ℕ). Given k (host_rows_lem ++ start_rows ram eeprom fault)) same g
   run_by n (taken u) e q =
       let clear = clear_both (start_rows ram eeprom fault) host_rows_lem ((taken_exactly tt u (host_rows_lem ++ start_rows ram eeprom fault)).0 e).0 in
       let past = past_host clear.0 (taken _) (clear_taken _ (start_rows ram eeprom fault) clear.1) in
