@@ -1,6 +1,7 @@
 // Plays the longest load that command 3 has, the longest image, to a chip whose EEPROM has no fault, and prints what came of it.
 // bench/chip.rs is the same program in Rust.
 #![tactic(auto)]
+
 use chip::{Chip, Played, Started, Stepped};
 use eeprom::Fault;
 use margins::Margin;
