@@ -46,11 +46,11 @@ pub fresh_timed : Timed (record {
 fresh_timed = record { within = fresh_within; left = (omega arith, omega arith); margins = record { one = refl; zero = refl } }
 
 -- A pulse leads within the ranges, whether its work goes well or not.
-record Settles (h : Heard) : Type 0 where
+pub record Settles (h : Heard) : Type 0 where
   well : Within h.listener
   badly : Within (failed h.listener h.event)
 
-settled_within : (h : Heard) (good : Bool) → Settles h → Within (settled h good)
+pub settled_within : (h : Heard) (good : Bool) → Settles h → Within (settled h good)
 unfolding settled
 settled_within h good s = when_elim Within good _ _ (λ e. s.well) (λ e. s.badly)
 

@@ -39,14 +39,15 @@ module _ (c : Chip) (ram eeprom : List ℕ) (wait low : ℕ) where
       ∙ ap (λ (g : Received). unless_refused ram eeprom (first (step_rows c ram eeprom) (pulse c ram eeprom g))) heard
 
 -- What a step left that wasn't refused.
-pub record Stepping (c : Chip) (ram eeprom : List ℕ) (h : Received) (r : Reply) (ram' : List ℕ) : Type 0 where
+pub record Stepping (c : Chip) (ram eeprom : List ℕ) (h : Received) (r : Reply) (ram' eeprom' : List ℕ) : Type 0 where
   pub passed : Clear (step_rows c ram eeprom)
   pub chip_after : r.chip ≡ after h (done c.fault h.heard.event ram eeprom).done.fault (done c.fault h.heard.event ram eeprom).done.good
   pub ram_after_lem : ram' ≡ (done c.fault h.heard.event ram eeprom).ram
+  pub eeprom_after : eeprom' ≡ (done c.fault h.heard.event ram eeprom).eeprom
 
 module _ (c : Chip) (ram eeprom : List ℕ) (h : Received) where
   decided : (r : Reply) (ram' eeprom' : List ℕ) (a : Answer Left) → first (step_rows c ram eeprom) (pulse c ram eeprom h) ≡ a
-      → unless_refused ram eeprom a ≡ left (taken r) ram' eeprom' → Stepping c ram eeprom h r ram'
+      → unless_refused ram eeprom a ≡ left (taken r) ram' eeprom' → Stepping c ram eeprom h r ram' eeprom'
   decided r ram' eeprom' (refused n) e q = absurd (not_both (ap (λ (x : Left). x.answer) q))
   decided r ram' eeprom' (taken x) e q =
       let known = (taken_exactly (pulse c ram eeprom h) x (step_rows c ram eeprom)).0 e in
@@ -55,6 +56,7 @@ module _ (c : Chip) (ram eeprom : List ℕ) (h : Received) where
         passed = known.0;
         chip_after = ap (λ (y : Left). (back (λ n. r) (λ x. x) y.answer).chip) same;
         ram_after_lem = ap (λ (y : Left). y.ram) same;
+        eeprom_after = ap (λ (y : Left). y.eeprom) same;
       }
 
   -- A number is given for its row alone.
@@ -73,6 +75,6 @@ step_given c ram eeprom wait low n e = numbered c ram eeprom (hears c.receiver w
 
 pub step_taken : (c : Chip) (ram eeprom : List ℕ) (wait low : ℕ) (r : Reply) (ram' eeprom' : List ℕ)
     → chip_step c ram eeprom wait low ≡ left (taken r) ram' eeprom'
-    → Stepping c ram eeprom (hears c.receiver wait low) r ram'
+    → Stepping c ram eeprom (hears c.receiver wait low) r ram' eeprom'
 unfolding chip_step
 step_taken c ram eeprom wait low r ram' eeprom' e = decided c ram eeprom (hears c.receiver wait low) r ram' eeprom' _ refl e

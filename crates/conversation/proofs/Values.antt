@@ -37,12 +37,12 @@ use Rattle.conversation.proofs.Reaching.{and_then, rounds}
 
 -- A bit more of a value.
 module _ (x i : ℕ) where
-  bit-more-at : (b : Bool) → value_bit x i ≡ b → x % 2 ^ i + when b (2 ^ i) 0 ≡ x / 2 ^ i % 2 * 2 ^ i + x % 2 ^ i
+  bit_more_at : (b : Bool) → value_bit x i ≡ b → x % 2 ^ i + when b (2 ^ i) 0 ≡ x / 2 ^ i % 2 * 2 ^ i + x % 2 ^ i
   unfolding when
-  bit-more-at true e =
+  bit_more_at true e =
       let one : x / 2 ^ i % 2 ≡ 1 = eqb-true _ _ e in
       rw one (omega arith)
-  bit-more-at false e =
+  bit_more_at false e =
       let other : x / 2 ^ i % 2 ≡ 1 → ⊥ = eqb-false _ _ e in
       let none : x / 2 ^ i % 2 ≡ 0 = omega (arith, other) in
       rw none (omega arith)
@@ -50,7 +50,7 @@ module _ (x i : ℕ) where
   bit_more : x % 2 ^ i + when (value_bit x i) (2 ^ i) 0 ≡ x % 2 ^ (i + 1)
   bit_more =
       let next : 1 + i ≡ i + 1 = omega arith in
-      bit-more-at (value_bit x i) refl ∙ sym (mod-pow-add x 1 i) ∙ ap (λ (n : ℕ). x % 2 ^ n) next
+      bit_more_at (value_bit x i) refl ∙ sym (mod-pow-add x 1 i) ∙ ap (λ (n : ℕ). x % 2 ^ n) next
 
   -- What is held after i bits.
   abbrev held : ℕ

@@ -68,9 +68,9 @@ fewest true b n = omega arith
 fewest false true n = omega arith
 fewest false false n = omega arith
 
-some-pulses : (command n : ℕ) → 0 < pulses command n
+some_pulses : (command n : ℕ) → 0 < pulses command n
 unfolding pulses
-some-pulses command n = fewest (eqb command 0) (eqb command 1) n
+some_pulses command n = fewest (eqb command 0) (eqb command 1) n
 
 plan_long : (s : Settings) (command : ℕ) (image : List ℕ) → sum_of pulses_of (planned command image) ≡ pulses command (length image)
 unfolding pulses
@@ -169,7 +169,7 @@ module _ (t h p command : ℕ) (image : List ℕ) (host : Host) (ram eeprom : Li
 
   -- The last call.
   some : 0 < many
-  some = omega (arith, many_is, some-pulses command (length image))
+  some = omega (arith, many_is, some_pulses command (length image))
 
   abbrev n : ℕ
   n = many - 1

@@ -234,12 +234,12 @@ module _ (wait low : ℕ → ℕ) (n : ℕ) (s : State) (played : Played wait lo
     ends Off k = tt
 
     -- A pulse that is read.
-    heard-next : (phase : Phase) → s.chip.receiver.listener.phase ≡ phase → Here phase
+    heard_next : (phase : Phase) → s.chip.receiver.listener.phase ≡ phase → Here phase
         → Next (heard l phase (low (n + 1)) (reads t (low (n + 1))))
-    heard-next First e k =
+    heard_next First e k =
         let one : n + 1 ≡ 1 = omega (arith, k) in
         idle l (Second (record { 0 = low (n + 1) })) Silence (one, ap low one)
-    heard-next (Second d) e k =
+    heard_next (Second d) e k =
         let one : n ≡ 1 = k.0 in
         let two : n + 1 ≡ 2 = omega (arith, one) in
         idle (with_threshold l (threshold_of d.0 (low (n + 1)))) (Handshake 1) Silence (record {
@@ -251,42 +251,42 @@ module _ (wait low : ℕ → ℕ) (n : ℕ) (s : State) (played : Played wait lo
             matched = λ j a b. absurd (omega (arith, a, b));
           };
         })
-    heard-next (Handshake k) e h = handshake k h
-    heard-next (Answer (Connection k)) e h =
+    heard_next (Handshake k) e h = handshake k h
+    heard_next (Answer (Connection k)) e h =
         let sent : n ≡ 252 + k * 2 + 0 = h.pulses in
         idle l (Rest (Connection k)) _ (record { pulses = omega (arith, sent); most = h.most; shaken = h.shaken })
-    heard-next (Answer (Acknowledging a)) e h = idle l (Rest (Acknowledging a)) _ (later low n t c h.0, answers a e h.1)
-    heard-next (Rest (Connection k)) e h = idle l (after_connection k) Silence (connection k h)
-    heard-next (Rest (Acknowledging a)) e h = acknowledges a h.0 h.1
-    heard-next (Command i bits) e h = command i bits h
-    heard-next (Size i bits) e h = size i _ h
-    heard-next (Long i k bits) e h = long k i _ h
-    heard-next (Align a) e h = aligns a _ h
-    heard-next (Ended x) e h = idle l (Ended x) Silence (ends x h)
+    heard_next (Answer (Acknowledging a)) e h = idle l (Rest (Acknowledging a)) _ (later low n t c h.0, answers a e h.1)
+    heard_next (Rest (Connection k)) e h = idle l (after_connection k) Silence (connection k h)
+    heard_next (Rest (Acknowledging a)) e h = acknowledges a h.0 h.1
+    heard_next (Command i bits) e h = command i bits h
+    heard_next (Size i bits) e h = size i _ h
+    heard_next (Long i k bits) e h = long k i _ h
+    heard_next (Align a) e h = aligns a _ h
+    heard_next (Ended x) e h = idle l (Ended x) Silence (ends x h)
 
     -- One that times out.
-    late-acknowledged : (a : Acknowledgement) → Commanded low n t c → Next (said.quiet l (late_acknowledgement a))
-    late-acknowledged Stored k = shuts l
-    late-acknowledged Programmed k = idle l (Align Failed) Silence (later low n t c k, tt)
-    late-acknowledged Verified k = idle l (Align Failed) Silence (later low n t c k, tt)
-    late-acknowledged Failed k = shuts l
+    late_acknowledged : (a : Acknowledgement) → Commanded low n t c → Next (said.quiet l (late_acknowledgement a))
+    late_acknowledged Stored k = shuts l
+    late_acknowledged Programmed k = idle l (Align Failed) Silence (later low n t c k, tt)
+    late_acknowledged Verified k = idle l (Align Failed) Silence (later low n t c k, tt)
+    late_acknowledged Failed k = shuts l
 
-    late-next : (phase : Phase) → Here phase → Next (after_late l phase)
-    late-next First k = boots l
-    late-next (Second d) k = boots l
-    late-next (Handshake k) h = boots l
-    late-next (Answer (Connection k)) h = shuts l
-    late-next (Answer (Acknowledging a)) h = late-acknowledged a h.0
-    late-next (Rest (Connection k)) h = shuts l
-    late-next (Rest (Acknowledging a)) h = late-acknowledged a h.0
-    late-next (Command i bits) h = boots l
-    late-next (Size i bits) h = boots l
-    late-next (Long i k bits) h = boots l
-    late-next (Align a) h = boots l
-    late-next (Ended x) h = idle l (Ended x) Silence (ends x h)
+    late_next : (phase : Phase) → Here phase → Next (after_late l phase)
+    late_next First k = boots l
+    late_next (Second d) k = boots l
+    late_next (Handshake k) h = boots l
+    late_next (Answer (Connection k)) h = shuts l
+    late_next (Answer (Acknowledging a)) h = late_acknowledged a h.0
+    late_next (Rest (Connection k)) h = shuts l
+    late_next (Rest (Acknowledging a)) h = late_acknowledged a h.0
+    late_next (Command i bits) h = boots l
+    late_next (Size i bits) h = boots l
+    late_next (Long i k bits) h = boots l
+    late_next (Align a) h = boots l
+    late_next (Ended x) h = idle l (Ended x) Silence (ends x h)
 
   pub next : KnownOf wait low n s.ram s.chip.receiver.listener → Next (hears s.chip.receiver (wait (n + 1)) (low (n + 1))).heard
   unfolding hears
   next k =
       let l = s.chip.receiver.listener in
-      when_elim (λ (r : Received). Next r.heard) _ _ _ (λ e. late-next l l.phase k) (λ e. heard-next l l.phase refl k)
+      when_elim (λ (r : Received). Next r.heard) _ _ _ (λ e. late_next l l.phase k) (λ e. heard_next l l.phase refl k)

@@ -67,9 +67,9 @@ value phase v = bits phase (λ n i. value_bit v i) 0 32
 
 -- What follows silence, a 0, a 1.
 abbrev pub by : Seen → Part → Part → Part → Part
-by Silence at-silence at-0 at_1 = at-silence
-by Zero at-silence at-0 at_1 = at-0
-by One at-silence at-0 at_1 = at_1
+by Silence at_silence at_0 at_1 = at_silence
+by Zero at_silence at_0 at_1 = at_0
+by One at_silence at_0 at_1 = at_1
 
 -- What was seen around a pair's first pulse counts in the call that sends its second.
 module _ (seen : ℕ → Seen) where

@@ -57,17 +57,17 @@ module _ (t h p l : ℕ) (fit : Fit t h p) (loop : Loop l) (margin : Margin t p 
     pub paced : Paced t h p l fit loop s.chip.receiver.listener.phase s.host.session.place.index s.chip.receiver.left.0
 
   -- Every leg is measured near its length.
-  leg-near : (n a d : ℕ) → d ≤ 10000000000 → Near (l + p) d (measured n ((a + d) / p - a / p) * l)
-  leg-near n a d short =
+  leg_near : (n a d : ℕ) → d ≤ 10000000000 → Near (l + p) d (measured n ((a + d) / p - a / p) * l)
+  leg_near n a d short =
       let near = ticks_near p a d (omega (arith, fit.p_within.0)) in
       let brief : ((a + d) / p - a / p) * p < 90001000000 = omega (arith, near.above, short, fit.p_within.1) in
       loops_near p l d ((a + d) / p - a / p) (measured n ((a + d) / p - a / p)) near (may n ((a + d) / p - a / p) brief)
 
-  wait-near : (n a d : ℕ) → d ≤ 10000000000 → waited measured n ((a + d) / p - a / p) * l < d + (l + p)
+  wait_near : (n a d : ℕ) → d ≤ 10000000000 → waited measured n ((a + d) / p - a / p) * l < d + (l + p)
   unfolding waited
-  wait-near n a d short =
+  wait_near n a d short =
       when_elim (λ (c : ℕ). c * l < d + (l + p)) (eqb n 0) 0 (measured (n * 2) ((a + d) / p - a / p)) (λ e. omega (arith, loop.0))
-      (λ e. (leg-near (n * 2) a d short).above)
+      (λ e. (leg_near (n * 2) a d short).above)
 
   -- A low is at most two unit times, and a spacer at most 10 ms; where no silent pair ended it is h.
   low_most : (b : Bool) → low figures b ≤ 2 * t * 1000
@@ -122,8 +122,8 @@ module _ (t h p l : ℕ) (fit : Fit t h p) (loop : Loop l) (margin : Margin t p 
         ≡ (s.host.time + low figures bit) / p - s.host.time / p
     low_ticks_lem = ap (λ (x : Settings). (s.host.time + low x bit) / x.p - s.host.time / x.p) c.settings
 
-    low-brief : low figures bit ≤ 10000000000
-    low-brief = omega (arith, low_most bit, fit.t_within.1)
+    low_brief : low figures bit ≤ 10000000000
+    low_brief = omega (arith, low_most bit, fit.t_within.1)
 
     abbrev wait_loops_lem : ℕ
     wait_loops_lem = wait_of measured image load s m going listens
@@ -134,12 +134,12 @@ module _ (t h p l : ℕ) (fit : Fit t h p) (loop : Loop l) (margin : Margin t p 
     wait_above : wait_loops_lem * l < c.space + (l + p)
     wait_above =
         subst (λ (x : ℕ). waited measured s.host.session.pulses x * l < c.space + (l + p)) (sym wait_ticks_lem)
-        (wait-near s.host.session.pulses c.rose c.space c.short)
+        (wait_near s.host.session.pulses c.rose c.space c.short)
 
     low_near : Near (l + p) (low figures bit) (low_loops_lem * l)
     low_near =
         subst (λ (x : ℕ). Near (l + p) (low figures bit) (lasted measured s.host.session.pulses x * l)) (sym low_ticks_lem)
-        (leg-near (s.host.session.pulses * 2 + 1) s.host.time (low figures bit) low-brief)
+        (leg_near (s.host.session.pulses * 2 + 1) s.host.time (low figures bit) low_brief)
 
     low_measured : Low t p l margin (bit_of load image (talk_of s)) low_loops_lem
     low_measured =

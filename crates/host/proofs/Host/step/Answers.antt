@@ -35,7 +35,8 @@ pub returns-then-is_outside : goal.returns-then-is_outside
 returns-then-is_outside c =
     let a = c.args in
     let outside = answered _ _ _ c.is_outside.ensures c.if-is_outside.true in
-    sym (step_outside a.self a.image.now a.seen (outside_time a.self outside))
+    let answer = sym (step_outside a.self a.image.now a.seen (outside_time a.self outside)) in
+    search answer
 
 pub tick-fall-requires : goal.tick-fall-requires
 tick-fall-requires c =
@@ -71,14 +72,16 @@ returns-in-Past c =
     let timely = answered _ _ _ c.is_outside.ensures c.if-is_outside.false in
     let said = sym (c.in-Past.ensures ∙ ap (λ (t : Ticks). spacer_before a.self.phases t.0) c.tick-fall.ensures) in
     let past = phases_past a.self timely 13 said in
-    sym (step_outside a.self a.image.now a.seen past)
+    let answer = sym (step_outside a.self a.image.now a.seen past) in
+    search answer
 
 pub returns-in-Refused : goal.returns-in-Refused
 returns-in-Refused c =
     let a = c.args in
     let timely = answered _ _ _ c.is_outside.ensures c.if-is_outside.false in
     let fine = (spaced a.self c.tick-fall.result c.in-Of.spacer.0 timely c.tick-fall.ensures c.in-Of.ensures).0 in
-    sym (step_refused a.self fine a.image.now a.seen _ (sym c.in-Refused.ensures))
+    let answer = sym (step_refused a.self fine a.image.now a.seen _ (sym c.in-Refused.ensures)) in
+    search answer
 
 pub returns-in-Sent : goal.returns-in-Sent
 returns-in-Sent c =
@@ -97,4 +100,5 @@ returns-in-Sent c =
     c.with_pulse-self.ensures
     ∙ ap₂ (with_pulse self.phases self.session.place.phase self.session.place.index) left.1 lasts in
     let sent = sent_is self pulse _ _ _ _ _ fall rise (ap (λ (x : ℕ). self.time + x) lows) time phases in
-    sent ∙ sym (step_sent self left.0 a.image.now a.seen pulse (sym c.in-Sent.ensures))
+    let answer = sent ∙ sym (step_sent self left.0 a.image.now a.seen pulse (sym c.in-Sent.ensures)) in
+    search answer

@@ -4,4 +4,4 @@ use Rattle.units.proofs.Differences.{difference_exact}
 use Rattle.units.proofs.Loops.minus.Goals as goal
 
 pub returns : goal.returns
-returns c = difference_exact _ _ c.struct_known-1.given.0 c.struct_known-2-1.given.0
+returns c = cc (difference_exact _ _ c.struct_known-1.given.0 c.struct_known-2-1.given.0)
