@@ -40,7 +40,7 @@ use Rattle.replay.specs.Replay.{replay_rows, replay_of}
 use Rattle.replay.specs.Replay as replays
 use Rattle.counts.specs.Counts.{counted}
 use Rattle.times.specs.Times.{timed_rows, timed}
-use Rattle.refusals.specs.Demand1.{Demand1}
+use Rattle.refusals.specs.Demand1.{Demand1, ReportRefusals}
 
 -- What two tables refuse, one after the other: the first does, or lets it pass and the second does.
 given_split : (n : ℕ) (rows more : List Row) → Given n (rows ++ more) → Given n rows ⊎ (Clear rows × Given n more)
@@ -126,7 +126,7 @@ session_14 : (s : Session) → Within s → place.ended s.place.phase ≡ true �
 session_14 s w e image = inr ((session_within s).1 w, inl (refl, e))
 
 pub demand_1 : Demand1
-unfolding session_start session_step host_start host_step serial_start serial_step chip_start judgement counted timed
+unfolding session_start session_step host_start host_step serial_start serial_step chip_start judgement
 demand_1 = record {
   settings = settings_refused;
   load = load_refused;
@@ -143,8 +143,6 @@ demand_1 = record {
   write = λ ns buffer n. (write_given ns buffer n, λ g. ap (λ (x : traces.Left). x.answer) (write_left ns buffer n g));
   replay = λ trace fault ram eeprom n.
       (replay_given trace fault ram eeprom n, λ g. ap (λ (x : replays.Left). x.answer) (replay_left trace fault ram eeprom n g));
-  plan = λ command image n. refused_exactly _ n (load_rows command image);
-  times = λ p s trackers n. refused_exactly _ n (timed_rows p s);
   run = λ t h p command image fault l ram eeprom n. (
     run_by t h p command image fault l ram eeprom n _ refl,
     λ g. ap (λ (x : runs.Left). x.answer) (run_left t h p command image fault l ram eeprom n g),
@@ -166,4 +164,11 @@ demand_1 = record {
       let kept = (chip_reached.chip_kept c).1 (chip_reached.reached_kept c r) in
       ap (λ (x : chip.Left). x.answer)
       (chip_left c ram eeprom wait low 14 (inr (agrees _ _ w, inr (agrees _ _ v, inr (kept, inl (refl, e))))));
+}
+
+pub report_refusals : ReportRefusals
+unfolding counted timed
+report_refusals = record {
+  plan = λ command image n. refused_exactly _ n (load_rows command image);
+  times = λ p s trackers n. refused_exactly _ n (timed_rows p s);
 }

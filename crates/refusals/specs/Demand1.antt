@@ -63,9 +63,6 @@ pub record Demand1 : Type 0 where
   pub write : (ns buffer : List ℕ) (n : ℕ) → ((writes ns buffer).answer ≡ refused n) ↔ Given n (write_rows ns buffer)
   pub replay : (trace : List ℕ) (fault : Fault) (ram eeprom : List ℕ) (n : ℕ)
       → ((replay_of trace fault ram eeprom).answer ≡ refused n) ↔ Given n (replay_rows trace fault ram eeprom)
-  -- of a batch report's counts and times,
-  pub plan : (command : ℕ) (image : List ℕ) (n : ℕ) → (counted command image ≡ refused n) ↔ Given n (load_rows command image)
-  pub times : (p : Plan) (s : Settings) (trackers n : ℕ) → (timed p s trackers ≡ refused n) ↔ Given n (timed_rows p s)
   -- and of a run.
   pub run : (t h p command : ℕ) (image : List ℕ) (fault : Fault) (l : ℕ) (ram eeprom : List ℕ) (n : ℕ)
       → ((run_of t h p command image fault l ram eeprom).answer ≡ refused n) ↔ Given n (run_rows t h p command image fault ram eeprom)
@@ -93,3 +90,8 @@ pub record Demand1 : Type 0 where
       → serial_step s image back ≡ refused 14
   pub chip_ended : (c : Chip) → chip_reached.Reached c → phases.ended c.receiver.listener.phase ≡ true → (ram eeprom : List ℕ) (wait low : ℕ)
       → length ram ≡ 32768 → length eeprom ≡ 32768 → (chip_step c ram eeprom wait low).answer ≡ refused 14
+
+-- The same of a batch report's counts and times: a number is given exactly when its row applies and no row before it.
+pub record ReportRefusals : Type 0 where
+  pub plan : (command : ℕ) (image : List ℕ) (n : ℕ) → (counted command image ≡ refused n) ↔ Given n (load_rows command image)
+  pub times : (p : Plan) (s : Settings) (trackers n : ℕ) → (timed p s trackers ≡ refused n) ↔ Given n (timed_rows p s)
