@@ -1,6 +1,7 @@
 // Steps records made by hand, one for each case of the table on standard input: at each bound of docs/RECORDS.md one that is taken, and
 // past it one that is refused 13. The table says how it is read.
 #![tactic(auto)]
+
 mod chips;
 mod hosts;
 mod lines;

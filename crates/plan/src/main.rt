@@ -44,7 +44,7 @@ fn main(rt: HostRuntime) {
 }
 
 // An argument by its number. One that is missing, or too long for a figure, is none.
-fn argument(rt: &impl Env, i: usize) -> Figure {
+fn argument(rt: &HostRuntime, i: usize) -> Figure {
     let mut text = [0u8; 20];
     let n = rt.arg(i, &mut text).unwrap_or(0);
     figures::read(&text[..n])

@@ -1,6 +1,7 @@
 // Reads an image from standard input, loads it by command 1 onto a chip whose EEPROM has no fault, and prints what came of it: six lines,
 // or the number of a refusal.
 #![tactic(auto)]
+
 ghost use Rattle.std.specs.Prelude.{◌≡◌};
 ghost use Rattle.phases.specs.declared.ChipEnd.TheVariants.{Listening};
 

@@ -1,6 +1,7 @@
 // Serial sessions with what comes back for their bytes: whole ones to each ending, with the image on standard input, and single calls on
 // records made by hand. A line each.
 #![tactic(auto)]
+
 mod calls;
 mod print;
 mod sessions;

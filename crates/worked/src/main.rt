@@ -2,6 +2,7 @@
 // A line of it that starts with `#` is a comment, one that is indented by two spaces is a case, printed with what came of it, and any other
 // is a heading, printed as it is.
 #![tactic(auto)]
+
 mod case;
 mod fed;
 mod print;
