@@ -19,7 +19,7 @@ use Rattle.frames.specs.declared.Frame.{Frame}
 module _ (f : Frame) (b : Bool) (e : fits f b ≡ true) where
   pub fits_room : f.used + width b ≤ 10
   unfolding fits
-  fits_room = leb-true (f.used + width b) 10 e
+  fits_room = omega (arith, leb-true (f.used + width b) _ e)
 
   pub with_used : (with f b).used ≡ f.used + width b
   unfolding with

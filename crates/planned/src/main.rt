@@ -54,15 +54,10 @@ fn print_chip(chip: ChipEnd)
     requires { chip ≡ Listening → ⊥ }
 {
     match chip {
-        ChipEnd::Listening => unreached(),
+        ChipEnd::Listening => unreachable!(),
         ChipEnd::Ended(ending) => print_ending(ending),
     }
 }
-
-// Nothing calls this: its caller would have to prove what is false.
-fn unreached()
-    requires { ⊥ }
-{}
 
 fn print_ending(ending: Ending) {
     match ending {
