@@ -5,5 +5,5 @@ use Rattle.session.proofs.pulse_of.Goals as goal
 
 pub returns : goal.returns
 returns c =
-    rw (c.counted.ensures, c.ends_silent_pair-silent.ensures, c.next-next.ensures, c.bit-bit.ensures)
+    simp (c.counted.ensures, c.ends_silent_pair-silent.ensures, c.next-next.ensures, c.bit-bit.ensures)
     refl
