@@ -2,10 +2,8 @@
 -- Assumes nothing.
 use Rattle.std.specs.Prelude.{Bool, false, not, List, [], ◌∷◌, ℕ, ltb, eqb, length}
 use Rattle.terms.specs.Choice.{when, either}
-use Rattle.terms.specs.Refusals.{Row, Answer, refused, taken, ◌given-when◌, first}
+use Rattle.terms.specs.Refusals.{Row, Answer, ◌given-when◌, first}
 use Rattle.load.specs.Image.{bad_length, other_length, other_start, bad_stack, other_sum}
-use Rattle.load.specs.declared.Accepted.{Accepted}
-use Rattle.load.specs.declared.Accepted.TheVariants.{Refused, Taken}
 use Rattle.load.specs.declared.Load.{Load}
 
 -- The rows that look at the image.
@@ -38,8 +36,3 @@ load_outside l =
 -- 5, at a step: the image's length isn't the one at the start. For command 0 the image is not looked at.
 unfoldable pub other_image : Load → List ℕ → Bool
 other_image load image = when (eqb load.command 0) false (not (eqb (length image) load.length.0))
-
--- What an answer tells: its number where it is a refusal, otherwise the load.
-abbrev pub told_accepted : Accepted → Answer Load
-told_accepted (Refused n) = refused n
-told_accepted (Taken l) = taken l

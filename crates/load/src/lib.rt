@@ -2,10 +2,12 @@
 #![tactic(auto)]
 
 ghost use Rattle.std.specs.Prelude.{◌≡◌};
-ghost use Rattle.load.specs.Load.{accepted, load_outside, other_image, told_accepted};
+ghost use Rattle.terms.specs.Refusals.{told};
+ghost use Rattle.load.specs.Load.{accepted, load_outside, other_image};
 
 mod image;
 
+use terms::Refusal;
 use units::Bytes;
 
 // A command, and the length of the image that goes with it: 0 for command 0, which has none.
@@ -13,13 +15,6 @@ use units::Bytes;
 pub struct Load {
     pub command: u32,
     pub length: Bytes,
-}
-
-// What `Load::new` answers: a refusal by its number, or the load.
-#[derive(Clone, Copy)]
-pub enum Accepted {
-    Refused(u8),
-    Taken(Load),
 }
 
 impl Load {
@@ -31,34 +26,34 @@ impl Load {
 
     // The load, or the first refusal that applies: 4 for the command, 5 to 9 for the image. Command 0 has no image, and what is
     // lent as one is not looked at.
-    pub fn new(command: u32, image: &[u8]) -> Accepted
-        ensures { told_accepted result ≡ accepted command image.now }
+    pub fn new(command: u32, image: &[u8]) -> Result<Load, Refusal>
+        ensures { told result ≡ accepted command image.now }
     {
         if Self::LARGEST_COMMAND < command {
-            return Accepted::Refused(4);
+            return Err(Refusal::Command);
         }
         if command == 0 {
-            return Accepted::Taken(Load {
+            return Ok(Load {
                 command,
                 length: Bytes(0),
             });
         }
         if image::is_bad_length(Bytes(image.len())) {
-            return Accepted::Refused(5);
+            return Err(Refusal::Length);
         }
         if image::names_other_length(image) {
-            return Accepted::Refused(6);
+            return Err(Refusal::NamedLength);
         }
         if image::starts_elsewhere(image) {
-            return Accepted::Refused(7);
+            return Err(Refusal::Start);
         }
         if image::has_bad_stack(image) {
-            return Accepted::Refused(8);
+            return Err(Refusal::Stack);
         }
         if image::sums_otherwise(image) {
-            return Accepted::Refused(9);
+            return Err(Refusal::Sum);
         }
-        Accepted::Taken(Load {
+        Ok(Load {
             command,
             length: Bytes(image.len()),
         })

@@ -2,9 +2,7 @@
 -- Assumes nothing.
 use Rattle.std.specs.Prelude.{Bool, List, [], ◌∷◌, ℕ, ◌+◌, ◌*◌, ltb}
 use Rattle.terms.specs.Choice.{either}
-use Rattle.terms.specs.Refusals.{Row, Answer, refused, taken, ◌given-when◌, first}
-use Rattle.settings.specs.declared.Checked.{Checked}
-use Rattle.settings.specs.declared.Checked.TheVariants.{Refused, Taken}
+use Rattle.terms.specs.Refusals.{Row, Answer, ◌given-when◌, first}
 use Rattle.settings.specs.declared.Settings.{Settings}
 
 -- Below the smallest, or above the largest.
@@ -35,8 +33,3 @@ settings_outside s =
     (either (outside 4300 90000000 s.h)
     (either (outside 1000 1000000 s.p)
     (slow s.t s.h s.p)))
-
--- What an answer tells: its number where it is a refusal, otherwise the settings.
-abbrev pub told_checked : Checked → Answer Settings
-told_checked (Refused n) = refused n
-told_checked (Taken s) = taken s

@@ -2,7 +2,10 @@
 #![tactic(auto)]
 
 ghost use Rattle.std.specs.Prelude.{◌≡◌};
-ghost use Rattle.settings.specs.Settings.{checked, outside, settings_outside, slow, told_checked};
+ghost use Rattle.terms.specs.Refusals.{told};
+ghost use Rattle.settings.specs.Settings.{checked, outside, settings_outside, slow};
+
+use terms::Refusal;
 
 // The figures of a bench: the unit time `t` and the spacer `h` in ns, the tick `p` in ps. With a real chip keep `h` at least `t`: see
 // docs/LIMITS.md.
@@ -11,13 +14,6 @@ pub struct Settings {
     pub t: u32,
     pub h: u32,
     pub p: u32,
-}
-
-// What `Settings::new` answers: a refusal by its number, or the settings.
-#[derive(Clone, Copy)]
-pub enum Checked {
-    Refused(u8),
-    Taken(Settings),
 }
 
 impl Settings {
@@ -38,22 +34,22 @@ impl Settings {
 
     // The settings, or the refusal of the first figure that lies outside its bounds: 1 for `t`, 2 for `h`, 3 for `p`; or 16 where they are
     // too slow for a chip's countdown.
-    pub fn new(t: u32, h: u32, p: u32) -> Checked
-        ensures { told_checked result ≡ checked t h p }
+    pub fn new(t: u32, h: u32, p: u32) -> Result<Settings, Refusal>
+        ensures { told result ≡ checked t h p }
     {
         if outside(t, Self::SMALLEST_T, Self::LARGEST_T) {
-            return Checked::Refused(1);
+            return Err(Refusal::UnitTime);
         }
         if outside(h, Self::SMALLEST_H, Self::LARGEST_H) {
-            return Checked::Refused(2);
+            return Err(Refusal::Spacer);
         }
         if outside(p, Self::SMALLEST_P, Self::LARGEST_P) {
-            return Checked::Refused(3);
+            return Err(Refusal::Tick);
         }
         if is_slow(t, h, p) {
-            return Checked::Refused(16);
+            return Err(Refusal::Slow);
         }
-        Checked::Taken(Settings { t, h, p })
+        Ok(Settings { t, h, p })
     }
 
     // Whether a figure lies outside its bounds, as only settings made by hand can have it.
