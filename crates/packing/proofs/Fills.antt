@@ -15,8 +15,7 @@ use Rattle.follow.specs.Follow.{onward}
 use Rattle.place.specs.declared.Place.{Place}
 use Rattle.frames.specs.Frames.{empty, fits, with}
 use Rattle.frames.specs.declared.Frame.{Frame}
-use Rattle.packing.specs.Filling.{most, goes_on, at_first, joined, closed, tried, more, filled_to, filled}
-use Rattle.packing.specs.declared.Filling.{Filling}
+use Rattle.packing.specs.Filling.{most, goes_on, at_first, joined, Open, closed, kept, tried, more, filled_to, filled}
 use Rattle.packing.specs.declared.Packing.{Packing}
 use Rattle.packing.specs.declared.Packing.TheVariants.{One, Three, Fewest}
 
@@ -26,10 +25,10 @@ some_most Three = omega arith
 some_most Fewest = omega arith
 
 module _ (packing : Packing) (load : Load) (image : List ℕ) (start : Place) where
-  abbrev after : ℕ → Filling
+  abbrev after : ℕ → Open
   after n = filled_to packing load image n (at_first start)
 
-  abbrev on : Frame → Place → Filling
+  abbrev on : Frame → Place → Open
   on frame place = record { frame = frame; place = place; going = true }
 
   one_more : (n : ℕ) → after (n + 1) ≡ more packing load image (after n)
@@ -60,7 +59,7 @@ module _ (packing : Packing) (load : Load) (image : List ℕ) (start : Place) wh
     misfits e = sym (when_false _ _ e) ∙ turned
 
   -- A byte that doesn't go on stays as it is.
-  stays : (f : Filling) (k : ℕ) → f ≡ after k → f.going ≡ false → (j : ℕ) → f ≡ after (j + k)
+  stays : (f : Open) (k : ℕ) → f ≡ after k → f.going ≡ false → (j : ℕ) → f ≡ after (j + k)
   unfolding filled_to more
   stays f k e q zero = e ∙ ap after (sym (zero-add k))
   stays f k e q (suc j) =
@@ -75,32 +74,32 @@ module _ (packing : Packing) (load : Load) (image : List ℕ) (start : Place) wh
       let same : suc (k + 1) ≡ suc k + 1 = omega arith in
       ap (more packing load image) (goes_back k) ∙ ap after same
 
-  pub from_first : (first : Filling) (n : ℕ) → first ≡ after 1 → 1 ≤ n → filled_to packing load image (n - 1) first ≡ after n
+  pub from_first : (first : Open) (n : ℕ) → first ≡ after 1 → 1 ≤ n → filled_to packing load image (n - 1) first ≡ after n
   from_first first n e h =
       let count : n - 1 + 1 ≡ n = omega (arith, h) in
       ap (filled_to packing load image (n - 1)) e ∙ goes_back (n - 1) ∙ ap after count
 
-  over : (f : Filling) (k all : ℕ) → f ≡ after k → f.going ≡ false → k ≤ all → all ≡ most packing → closed f ≡ filled packing load image start
+  over : (f : Open) (k all : ℕ) → f ≡ after k → f.going ≡ false → k ≤ all → all ≡ most packing → kept f ≡ filled packing load image start
   unfolding filled
   over f k all e q h m =
       let count : (all - k) + k ≡ most packing = omega (arith, h, m) in
-      ap closed (stays f k e q (all - k) ∙ ap after count)
+      ap kept (stays f k e q (all - k) ∙ ap after count)
 
   -- The three ways in which it ends: all turns are taken, the next bit doesn't fit, or its run is over.
   pub all_taken : (n all : ℕ) (frame : Frame) (place : Place) → on frame place ≡ after n → n ≤ all → all ≤ n → all ≡ most packing
-      → closed (on frame place) ≡ filled packing load image start
+      → kept (on frame place) ≡ filled packing load image start
   unfolding filled
   all_taken n all frame place e h k m =
       let same : n ≡ most packing = omega (arith, h, k, m) in
-      ap closed (e ∙ ap after same)
+      ap kept (e ∙ ap after same)
 
   module _ (n all : ℕ) (frame : Frame) (place : Place) (so_far : on frame place ≡ after n) (b : Bool)
       (next : b ≡ sent_bit load image place.phase place.index) (h : n + 1 ≤ all) (m : all ≡ most packing) where
-    pub bit_misfits : fits frame b ≡ false → closed (on frame place) ≡ filled packing load image start
+    pub bit_misfits : fits frame b ≡ false → kept (on frame place) ≡ filled packing load image start
     bit_misfits e = over (closed (on frame place)) (n + 1) all (misfits n frame place so_far b next e) refl h m
 
     pub run_over : (f : Frame) (to : Place) → fits frame b ≡ true → f ≡ with frame b → to ≡ onward load place.phase place.index
-        → goes_on packing to ≡ false → closed (on f to) ≡ filled packing load image start
+        → goes_on packing to ≡ false → kept (on f to) ≡ filled packing load image start
     run_over f to e q r going = over (joined packing f to) (n + 1) all (joins n frame place so_far b next f to e q r) going h m
 
   -- The first bit always fits.
@@ -115,6 +114,6 @@ module _ (packing : Packing) (load : Load) (image : List ℕ) (start : Place) wh
     unfolding filled_to
     begins going = goes_on_lem 0 empty start refl b is f to (first_fits b) q r going
 
-    pub alone : goes_on packing to ≡ false → closed (on f to) ≡ filled packing load image start
+    pub alone : goes_on packing to ≡ false → kept (on f to) ≡ filled packing load image start
     unfolding filled_to
     alone going = run_over 0 (most packing) empty start refl b is (some_most packing) refl f to (first_fits b) q r going

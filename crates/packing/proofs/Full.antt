@@ -19,7 +19,7 @@ use Rattle.frames.specs.declared.Frame.{Frame}
 use Rattle.frames.specs.Spells.{laid, widths}
 use Rattle.frames.proofs.Spells.{fits_room, with_used, two_each, frame_spells}
 use Rattle.packing.specs.Phases.{in_bits}
-use Rattle.packing.specs.Filling.{most, goes_on, at_first, joined, closed, tried, more, filled_to, filled, sent_at}
+use Rattle.packing.specs.Filling.{most, goes_on, at_first, Open, joined, closed, kept, tried, more, filled_to, filled, sent_at}
 use Rattle.packing.specs.declared.Filling.{Filling}
 use Rattle.packing.specs.declared.Packing.{Packing}
 use Rattle.packing.specs.declared.Packing.TheVariants.{Fewest}
@@ -60,7 +60,7 @@ module _ (packing : Packing) (load : Load) (image : List ℕ) (p : Place) (on : 
   wide bits q = 10 < widths bits + width (bit_at load image q)
 
   -- After n turns.
-  record Holds (n : ℕ) (f : Filling) : Type 0 where
+  record Holds (n : ℕ) (f : Open) : Type 0 where
     bits : List Bool
     frame : f.frame ≡ laid empty bits
     used : f.frame.used ≡ widths bits
@@ -71,7 +71,7 @@ module _ (packing : Packing) (load : Load) (image : List ℕ) (p : Place) (on : 
     some : f.going ≡ false → 1 ≤ length bits
     full : f.going ≡ false → goes_on packing f.place ≡ true → wide bits f.place
 
-  module _ (n : ℕ) (f : Filling) (x : Holds n f) (going : f.going ≡ true) where
+  module _ (n : ℕ) (f : Open) (x : Holds n f) (going : f.going ≡ true) where
     abbrev b : Bool
     b = bit_at load image f.place
 
@@ -113,7 +113,7 @@ module _ (packing : Packing) (load : Load) (image : List ℕ) (p : Place) (on : 
           full = λ q r. more;
         }
 
-  rests : (n : ℕ) (f : Filling) → Holds n f → f.going ≡ false → Holds (suc n) f
+  rests : (n : ℕ) (f : Open) → Holds n f → f.going ≡ false → Holds (suc n) f
   rests n f x off = record {
     bits = x.bits;
     frame = x.frame;
@@ -126,7 +126,7 @@ module _ (packing : Packing) (load : Load) (image : List ℕ) (p : Place) (on : 
     full = x.full;
   }
 
-  more_holds : (n : ℕ) (f : Filling) → Holds n f → Holds (suc n) (more packing load image f)
+  more_holds : (n : ℕ) (f : Open) → Holds n f → Holds (suc n) (more packing load image f)
   unfolding more tried
   more_holds n f x =
       when_elim (Holds (suc n)) f.going _ _
@@ -157,8 +157,8 @@ module _ (packing : Packing) (load : Load) (image : List ℕ) (p : Place) (on : 
     pub way : Walks load image p bits f.place
     pub ends : goes_on packing f.place ≡ true → (length bits ≡ most packing) ⊎ wide bits f.place
 
-  by_bits : (n : ℕ) (f : Filling) (x : Holds n f) → 1 ≤ length x.bits
-      → (goes_on packing f.place ≡ true → (length x.bits ≡ most packing) ⊎ wide x.bits f.place) → Byte f
+  by_bits : (n : ℕ) (f : Open) (x : Holds n f) → 1 ≤ length x.bits
+      → (goes_on packing f.place ≡ true → (length x.bits ≡ most packing) ⊎ wide x.bits f.place) → Byte (kept f)
   by_bits n f x some ends = record {
     bits = x.bits;
     some = some;
@@ -168,7 +168,7 @@ module _ (packing : Packing) (load : Load) (image : List ℕ) (p : Place) (on : 
     ends = ends;
   }
 
-  by_going : (f : Filling) (x : Holds (most packing) f) (g : Bool) → f.going ≡ g → Byte f
+  by_going : (f : Open) (x : Holds (most packing) f) (g : Bool) → f.going ≡ g → Byte (kept f)
   by_going f x true e = by_bits (most packing) f x (omega (arith, x.count e, some_most packing)) (λ goes. inl (x.count e))
   by_going f x false e = by_bits (most packing) f x (x.some e) (λ goes. inr (x.full e goes))
 

@@ -10,19 +10,18 @@ use load::Load;
 use place::{Carries, Phase, Place};
 
 // How many bits a byte holds at most: one, three, or as many as fit, so that the bytes are the fewest.
-#[derive(Clone, Copy)]
+#[derive(Clone, Copy, PartialEq, Eq, Debug)]
 pub enum Packing {
     One,
     Three,
     Fewest,
 }
 
-// A byte being filled: its frame, the place of the next bit, and whether that bit may join it.
+// A byte that is filled: its frame, and the place of the next bit.
 #[derive(Clone, Copy)]
 pub struct Filling {
     pub frame: Frame,
     pub place: Place,
-    pub going: bool,
 }
 
 // The byte that is filled from a place on. It is left where the next one begins, after a pair's at the pair's second pulse.
@@ -45,7 +44,6 @@ fn paired(load: Load, place: Place) -> Filling
     Filling {
         frame: first.with(false),
         place: follow::onward(place, load),
-        going: false,
     }
 }
 
@@ -64,15 +62,13 @@ fn filled(packing: Packing, load: Load, image: &[u8], place: Place) -> Filling
         return Filling {
             frame: first,
             place: second,
-            going: false,
         };
     }
     let mut lows = first.lows;
     let mut used = first.used;
     let mut phase = second.phase;
     let mut index = second.index;
-    let mut n = 1;
-    while n < most {
+    for n in 1..most {
         let here = Place { phase, index };
         let bit = bits::bit(here, load, image);
         let frame = Frame { lows, used };
@@ -90,12 +86,10 @@ fn filled(packing: Packing, load: Load, image: &[u8], place: Place) -> Filling
         if !goes {
             break;
         }
-        n = n + 1;
     }
     Filling {
         frame: Frame { lows, used },
         place: Place { phase, index },
-        going: false,
     }
 }
 
@@ -112,11 +106,7 @@ fn goes_on(packing: Packing, place: Place) -> bool
 fn goes_into(packing: Packing, phase: Phase) -> bool
     ensures { result ≡ goes_into packing phase }
 {
-    match packing {
-        Packing::One => false,
-        Packing::Three => false,
-        Packing::Fewest => in_bits(phase),
-    }
+    packing == Packing::Fewest && in_bits(phase)
 }
 
 fn most(packing: Packing) -> u32
@@ -132,19 +122,11 @@ fn most(packing: Packing) -> u32
 fn in_pairs(phase: Phase) -> bool
     ensures { result ≡ in_pairs phase }
 {
-    match phase.carries() {
-        Carries::Pairs => true,
-        Carries::Bits => false,
-        Carries::Nothing => false,
-    }
+    phase.carries() == Carries::Pairs
 }
 
 fn in_bits(phase: Phase) -> bool
     ensures { result ≡ in_bits phase }
 {
-    match phase.carries() {
-        Carries::Pairs => false,
-        Carries::Bits => true,
-        Carries::Nothing => false,
-    }
+    phase.carries() == Carries::Bits
 }

@@ -47,7 +47,7 @@ pub enum Phase {
 
 // What a phase carries: pairs, each the bits 1, 0; the bits of the handshake, of a value or of the image; or nothing, once the session
 // has ended.
-#[derive(Clone, Copy)]
+#[derive(Clone, Copy, PartialEq, Eq, Debug)]
 pub enum Carries {
     Pairs,
     Bits,

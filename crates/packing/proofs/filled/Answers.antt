@@ -22,9 +22,6 @@ loop-n-init c =
     in
     (omega arith, (omega (arith, c.most-most.ensures, some_most a.packing), begun))
 
-pub loop-n-smaller : goal.loop-n-smaller
-loop-n-smaller c = omega arith
-
 pub loop-n-preserved : goal.loop-n-preserved
 loop-n-preserved c =
     let next = goes_on_lem _ _ _ _ c.loop-n.n _ _ c.loop-n.invariant.1.1 c.bit-bit-in-loop-n.result c.bit-bit-in-loop-n.ensures c.with-longer.result c.onward-to.result

@@ -2,7 +2,7 @@
 -- Assumes nothing.
 use mathlib.Core.Bool.{true}
 use mathlib.Core.Path.{◌≡◌}
-use Prim.Native.Nat.{◌-◌, ◌≤◌}
+use Prim.Native.Nat.{◌≤◌}
 use Rattle.packing.specs.Filling.{at_first, filled_to}
 use Rattle.packing.proofs.filled.Given as goal
 
@@ -12,6 +12,3 @@ invariant-loop-n l =
     × ((l.n ≤ l.most)
     × (record { frame = record { lows = l.lows; used = l.used }; place = record { phase = l.phase; index = l.index }; going = true }
     ≡ filled_to l.packing l.load l.image l.n (at_first l.fn.place)))
-
-abbrev pub decreases-loop-n : goal.decreases-loop-n
-decreases-loop-n l = l.most - l.n
