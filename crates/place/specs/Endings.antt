@@ -1,10 +1,8 @@
 -- 01, "What the host sends", the table of endings: the number of each, and where a session has one.
 -- Assumes nothing.
-use Rattle.std.specs.Prelude.{ℕ}
+use Rattle.std.specs.Prelude.{ℕ, Option, None, Some}
 use Rattle.place.specs.declared.Ending.{Ending}
 use Rattle.place.specs.declared.Ending.TheVariants.{Done, Lost, WrongVersion, BadRam, BadProgramming, BadVerification}
-use Rattle.place.specs.declared.HostEnd.{HostEnd}
-use Rattle.place.specs.declared.HostEnd.TheVariants as host
 use Rattle.place.specs.declared.Phase.{Phase}
 use Rattle.place.specs.declared.Phase.TheVariants as at
 
@@ -35,6 +33,6 @@ end_at (at.Wait a) = going
 end_at (at.Ended e) = ended (number e)
 
 -- What the answer tells.
-abbrev pub told_end : HostEnd → End
-told_end host.Going = going
-told_end (host.Ended e) = ended (number e)
+abbrev pub told_end : Option Ending → End
+told_end None = going
+told_end (Some e) = ended (number e)

@@ -1,37 +1,36 @@
 // Where a session stands, without time: its phases, each with its pulses, and its endings.
 #![tactic(auto)]
 
-ghost use Rattle.std.specs.Prelude.{◌≡◌};
+ghost use Rattle.std.specs.Prelude.{◌≡◌, ◌*◌};
 ghost use Rattle.place.specs.Endings.{end_at, number, told_end};
-ghost use Rattle.place.specs.Phases.{carries, ended, places};
-
-mod pulses;
+ghost use Rattle.place.specs.Phases.{carries, ended, image_pulses, pairs, places};
 
 use load::Load;
+use std::fmt;
 
 // What the host waits for when it waits for an acknowledgement.
-#[derive(Clone, Copy)]
+#[derive(Clone, Copy, PartialEq, Eq, Debug)]
 pub enum Acknowledgement {
     Ram,
     Programming,
     Verification,
 }
 
-// How a session ends. It is lost by silence in a connection or version pair, by a wrong connection bit, or by silence in a wait's
-// last pair.
-#[derive(Clone, Copy)]
+// How a session ends, with the number that 01's table gives it. It is lost by silence in a connection or version pair, by a wrong
+// connection bit, or by silence in a wait's last pair.
+#[derive(Clone, Copy, PartialEq, Eq, Debug)]
 pub enum Ending {
-    Done,
-    Lost,
-    WrongVersion,
-    BadRam,
-    BadProgramming,
-    BadVerification,
+    Done = 0,
+    Lost = 1,
+    WrongVersion = 2,
+    BadRam = 3,
+    BadProgramming = 4,
+    BadVerification = 5,
 }
 
 // What a session is at. A version holds the bits of it that were seen so far, shifted in from the top; `Zeros` are the 32 zero bits
 // after a wrong version.
-#[derive(Clone, Copy)]
+#[derive(Clone, Copy, PartialEq, Eq, Debug)]
 pub enum Phase {
     Calibration,
     Handshake,
@@ -54,33 +53,36 @@ pub enum Carries {
     Nothing,
 }
 
-// Whether a session goes on, or how it has ended.
-#[derive(Clone, Copy)]
-pub enum HostEnd {
-    Going,
-    Ended(Ending),
-}
-
 // The next pulse to send: the phase, and the number of its pulses that were sent.
-#[derive(Clone, Copy)]
+#[derive(Clone, Copy, PartialEq, Eq, Debug)]
 pub struct Place {
     pub phase: Phase,
     pub index: u32,
 }
 
+impl Acknowledgement {
+    fn pulses(self) -> u32
+        ensures { result ≡ pairs self * 2 }
+    {
+        match self {
+            Acknowledgement::Ram => Phase::RAM_PULSES,
+            Acknowledgement::Programming => Phase::PROGRAMMING_PULSES,
+            Acknowledgement::Verification => Phase::VERIFICATION_PULSES,
+        }
+    }
+}
+
 impl Ending {
-    // The number that 01's table gives the ending.
     pub fn number(self) -> u8
         ensures { result ≡ number self }
     {
-        match self {
-            Ending::Done => 0,
-            Ending::Lost => 1,
-            Ending::WrongVersion => 2,
-            Ending::BadRam => 3,
-            Ending::BadProgramming => 4,
-            Ending::BadVerification => 5,
-        }
+        self as u8
+    }
+}
+
+impl fmt::Display for Ending {
+    fn fmt<W: fmt::Write>(&self, f: &mut fmt::Formatter<W>) -> fmt::Result {
+        write!(f, "{}", self.number())
     }
 }
 
@@ -111,11 +113,9 @@ impl Phase {
             Phase::Handshake => Phase::HANDSHAKE_PULSES,
             Phase::Connection => Phase::CONNECTION_PULSES,
             Phase::Version(_) => Phase::VERSION_PULSES,
-            Phase::Command => Phase::VALUE_PULSES,
-            Phase::Zeros => Phase::VALUE_PULSES,
-            Phase::Size => Phase::VALUE_PULSES,
-            Phase::Image => pulses::image(load),
-            Phase::Wait(awaited) => pulses::wait(awaited),
+            Phase::Command | Phase::Zeros | Phase::Size => Phase::VALUE_PULSES,
+            Phase::Image => image_pulses(load),
+            Phase::Wait(awaited) => awaited.pulses(),
             Phase::Ended(_) => 1,
         }
     }
@@ -124,36 +124,28 @@ impl Phase {
         ensures { result ≡ carries self }
     {
         match self {
-            Phase::Calibration => Carries::Pairs,
-            Phase::Handshake => Carries::Bits,
-            Phase::Connection => Carries::Pairs,
-            Phase::Version(_) => Carries::Pairs,
-            Phase::Command => Carries::Bits,
-            Phase::Zeros => Carries::Bits,
-            Phase::Size => Carries::Bits,
-            Phase::Image => Carries::Bits,
-            Phase::Wait(_) => Carries::Pairs,
+            Phase::Calibration | Phase::Connection | Phase::Version(_) | Phase::Wait(_) =>
+                Carries::Pairs,
             Phase::Ended(_) => Carries::Nothing,
+            _ => Carries::Bits,
         }
     }
 
-    // Whether the session goes on, or how it has ended.
-    pub fn end(self) -> HostEnd
+    // How the session has ended; none while it goes on.
+    pub fn end(self) -> Option<Ending>
         ensures { told_end result ≡ end_at self }
     {
         match self {
-            Phase::Calibration => HostEnd::Going,
-            Phase::Handshake => HostEnd::Going,
-            Phase::Connection => HostEnd::Going,
-            Phase::Version(_) => HostEnd::Going,
-            Phase::Command => HostEnd::Going,
-            Phase::Zeros => HostEnd::Going,
-            Phase::Size => HostEnd::Going,
-            Phase::Image => HostEnd::Going,
-            Phase::Wait(_) => HostEnd::Going,
-            Phase::Ended(ending) => HostEnd::Ended(ending),
+            Phase::Ended(ending) => Some(ending),
+            _ => None,
         }
     }
+}
+
+fn image_pulses(load: Load) -> u32
+    ensures { result ≡ image_pulses load }
+{
+    load.length.0.min(Load::LARGEST_LENGTH.0) as u32 * 8
 }
 
 impl Place {
@@ -161,18 +153,6 @@ impl Place {
     pub fn has_ended(self) -> bool
         ensures { result ≡ ended self.phase }
     {
-        let phase = self.phase;
-        match phase {
-            Phase::Calibration => false,
-            Phase::Handshake => false,
-            Phase::Connection => false,
-            Phase::Version(_) => false,
-            Phase::Command => false,
-            Phase::Zeros => false,
-            Phase::Size => false,
-            Phase::Image => false,
-            Phase::Wait(_) => false,
-            Phase::Ended(_) => true,
-        }
+        self.phase.end().is_some()
     }
 }

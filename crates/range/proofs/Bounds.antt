@@ -45,8 +45,5 @@ module _ (load : Load) where
   last_most (Wait a) = omega (arith, waits_most a)
   last_most (Ended e) = omega arith
 
-  pub before_most : (phase : Phase) → before load phase ≤ 264362
-  before_most phase = omega (arith, last_most phase)
-
   pub place_most : (phase : Phase) (i : ℕ) → i < places load phase → before load phase + i ≤ 264362
   place_most phase i h = omega (arith, last_most phase, h)

@@ -15,35 +15,30 @@ use place::{Phase, Place};
 pub fn is_outside(place: Place, load: Load) -> bool
     ensures { result ≡ place_outside load place.phase place.index }
 {
-    let phase = place.phase;
-    let index = place.index;
-    match phase {
-        Phase::Calibration => lacks(load, phase, index),
-        Phase::Handshake => lacks(load, phase, index),
-        Phase::Connection => lacks(load, phase, index),
-        Phase::Version(_) => lacks(load, phase, index),
-        Phase::Command => lacks(load, phase, index),
-        Phase::Zeros => lacks(load, phase, index),
-        Phase::Size => lacks(load, phase, index),
-        Phase::Image => lacks(load, phase, index),
-        Phase::Wait(_) => lacks(load, phase, index),
-        Phase::Ended(_) => lacks(load, phase, index),
+    match place.phase {
+        Phase::Calibration => lacks(load, place),
+        Phase::Handshake => lacks(load, place),
+        Phase::Connection => lacks(load, place),
+        Phase::Version(_) => lacks(load, place),
+        Phase::Command => lacks(load, place),
+        Phase::Zeros => lacks(load, place),
+        Phase::Size => lacks(load, place),
+        Phase::Image => lacks(load, place),
+        Phase::Wait(_) => lacks(load, place),
+        Phase::Ended(_) => lacks(load, place),
     }
 }
 
-fn lacks(load: Load, phase: Phase, index: u32) -> bool
-    ensures { result ≡ place_outside load phase index }
+#[tactic(auto, using(terms::proofs::Refusals::walk), unfolding(crate::specs::Ranges::place_outside))]
+fn lacks(load: Load, place: Place) -> bool
+    ensures { result ≡ place_outside load place.phase place.index }
 {
-    if load.command < least::command(phase) {
-        return true;
-    }
-    phase.places(load) <= index
+    load.command < least::command(place.phase) || place.phase.places(load) <= place.index
 }
 
 // The most pulses that a load's session can have sent before this place.
 pub fn pulses_before(place: Place, load: Load) -> u64
     ensures { result ≡ before load place.phase + place.index }
 {
-    let phase = place.phase;
-    before::pulses(load, phase) + place.index as u64
+    u64::from(before::pulses(load, place.phase)) + u64::from(place.index)
 }
