@@ -1,8 +1,8 @@
 -- 02, "One": a serial session's start and its steps.
 -- Assumes nothing.
-use Rattle.std.specs.Prelude.{Bool, List, [], ◌∷◌, ℕ}
+use Rattle.std.specs.Prelude.{Bool, List, [], ◌∷◌, ℕ, Option, None, Some}
 use Rattle.terms.specs.Choice.{when, either}
-use Rattle.terms.specs.Refusals.{Row, Answer, refused, taken, ◌given-when◌, first}
+use Rattle.terms.specs.Refusals.{Row, Answer, ◌given-when◌, first}
 use Rattle.load.specs.Load.{load_rows, load_of, load_outside, other_image}
 use Rattle.load.specs.declared.Load.{Load}
 use Rattle.place.specs.Phases.{ended}
@@ -15,15 +15,9 @@ use Rattle.frames.specs.Frames.{byte_of}
 use Rattle.packing.specs.Filling.{sent_at}
 use Rattle.serial.specs.Replies.{came, wrong_reply, resumed}
 use Rattle.packing.specs.declared.Filling.{Filling}
-use Rattle.serial.specs.declared.Wire.{Wire}
-use Rattle.serial.specs.declared.Wire.TheVariants.{Nothing, Byte}
 use Rattle.packing.specs.declared.Packing.{Packing}
 use Rattle.serial.specs.declared.Serial.{Serial}
 use Rattle.serial.specs.declared.Turn.{Turn}
-use Rattle.serial.specs.declared.Started.{Started}
-use Rattle.serial.specs.declared.Started.TheVariants as started
-use Rattle.serial.specs.declared.Stepped.{Stepped}
-use Rattle.serial.specs.declared.Stepped.TheVariants as stepped
 
 -- A serial session before its first byte.
 abbrev pub fresh : Packing → Load → Serial
@@ -38,7 +32,7 @@ unfoldable pub serial_outside : Load → Place → Bool
 serial_outside load place = either (load_outside load) (place_outside load place.phase place.index)
 
 -- A step's rows, in their order.
-abbrev pub serial_rows : Serial → List ℕ → Wire → List Row
+abbrev pub serial_rows : Serial → List ℕ → Option ℕ → List Row
 serial_rows s image back =
     13 given-when serial_outside s.load s.place
     ∷ 14 given-when ended s.place.phase
@@ -51,31 +45,22 @@ abbrev pub moved_to : Serial → Place → Serial
 moved_to s place = record { packing = s.packing; load = s.load; place = place }
 
 abbrev pub byte_sent : Serial → Filling → Turn
-byte_sent s f = record { sent = Byte (byte_of f.frame.lows); serial = moved_to s f.place }
+byte_sent s f = record { sent = Some (byte_of f.frame.lows); serial = moved_to s f.place }
 
 -- From a place on: one byte, or none where the session has ended.
 unfoldable pub turn_at : Serial → List ℕ → Phase → ℕ → Turn
 turn_at s image phase i =
     when (ended phase)
-    (record { sent = Nothing; serial = moved_to s (record { phase = phase; index = i }) })
+    (record { sent = None; serial = moved_to s (record { phase = phase; index = i }) })
     (byte_sent s (sent_at s.packing s.load image phase i))
 
 -- What came back is taken first.
-abbrev pub resumed_at : Serial → Wire → Place
+abbrev pub resumed_at : Serial → Option ℕ → Place
 resumed_at s back = resumed s.load s.place.phase s.place.index (came back)
 
-unfoldable pub turn_of : Serial → List ℕ → Wire → Turn
+unfoldable pub turn_of : Serial → List ℕ → Option ℕ → Turn
 turn_of s image back = turn_at s image (resumed_at s back).phase (resumed_at s back).index
 
 -- The turn, or the first row that applies.
-unfoldable pub serial_step : Serial → List ℕ → Wire → Answer Turn
+unfoldable pub serial_step : Serial → List ℕ → Option ℕ → Answer Turn
 serial_step s image back = first (serial_rows s image back) (turn_of s image back)
-
--- What the answers tell: the number of a refusal, otherwise what is handed back.
-abbrev pub told_started : Started → Answer Serial
-told_started (started.Refused n) = refused n
-told_started (started.Taken s) = taken s
-
-abbrev pub told_stepped : Stepped → Answer Turn
-told_stepped (stepped.Refused n) = refused n
-told_stepped (stepped.Taken t) = taken t

@@ -2,146 +2,108 @@
 #![tactic(auto)]
 
 ghost use Rattle.std.specs.Prelude.{◌≡◌};
+ghost use Rattle.terms.specs.Refusals.{told};
 ghost use Rattle.place.specs.Endings.{end_at, told_end};
 ghost use Rattle.serial.specs.Phases.{awaits};
-ghost use Rattle.serial.specs.Step.{serial_start, serial_step, told_started, told_stepped, turn_of, turn_at};
+ghost use Rattle.serial.specs.Step.{serial_start, serial_step, turn_of, turn_at};
 
 mod ranges;
 mod replies;
 
-use load::{Accepted, Load};
+use load::Load;
 use packing::Packing;
-use place::{HostEnd, Phase, Place};
-
-// What the wire carries in one direction, for one call: nothing, or a byte.
-#[derive(Clone, Copy)]
-pub enum Wire {
-    Nothing,
-    Byte(u8),
-}
+use place::{Ending, Phase, Place};
+use terms::Refusal;
 
 // A serial session: what it loads, where it is, and its packing, which stands last because the padding after it would be copied at every
 // step. After a pair's byte it stands at the pair's second pulse: what comes back for the byte decides what follows.
-#[derive(Clone, Copy)]
+#[derive(Clone, Copy, PartialEq, Eq, Debug)]
 pub struct Serial {
     pub load: Load,
     pub place: Place,
     pub packing: Packing,
 }
 
-// What `Serial::start` answers: a refusal by its number, or the session before its first byte.
-#[derive(Clone, Copy)]
-pub enum Started {
-    Refused(u8),
-    Taken(Serial),
-}
-
 // What a call sends, and the session after it. It sends nothing where what came back ended the session.
-#[derive(Clone, Copy)]
+#[derive(Clone, Copy, PartialEq, Eq, Debug)]
 pub struct Turn {
-    pub sent: Wire,
+    pub sent: Option<u8>,
     pub serial: Serial,
 }
 
-// What `Serial::step` answers: a refusal by its number, or the turn.
-#[derive(Clone, Copy)]
-pub enum Stepped {
-    Refused(u8),
-    Taken(Turn),
-}
-
 impl Serial {
-    // The session before its first byte, or the first of refusals 4 to 9 that applies.
-    pub fn start(packing: Packing, command: u32, image: &[u8]) -> Started
-        ensures { told_started result ≡ serial_start packing command image.now }
+    // The session before its first byte, or the first of the load's refusals that applies.
+    pub fn start(packing: Packing, command: u32, image: &[u8]) -> Result<Serial, Refusal>
+        ensures { told result ≡ serial_start packing command image.now }
     {
-        match Load::new(command, image) {
-            Accepted::Refused(n) => Started::Refused(n),
-            Accepted::Taken(load) => Started::Taken(Serial {
-                packing,
-                load,
-                place: Place {
-                    phase: Phase::Calibration,
-                    index: 0,
-                },
-            }),
-        }
+        let load = Load::new(command, image)?;
+        Ok(Serial {
+            packing,
+            load,
+            place: Place {
+                phase: Phase::Calibration,
+                index: 0,
+            },
+        })
     }
 
-    // The next byte, or none where what came back ends the session; or a refusal: 13 for a record out of its ranges, 14 for one that
-    // has ended, 15 for a reply that is neither $FE nor $FF, 5 for an image of another length than at the start. `back` is what came
-    // back for the byte before.
-    pub fn step(self, image: &[u8], back: Wire) -> Stepped
-        ensures { told_stepped result ≡ serial_step self image.now back }
+    // The next byte, or none where what came back ends the session; or a refusal: of a record out of its ranges, of one that has ended,
+    // of a reply that is neither $FE nor $FF, of an image of another length than at the start. `back` is the byte that came back for the
+    // one before, if any did.
+    pub fn step(self, image: &[u8], back: Option<u8>) -> Result<Turn, Refusal>
+        ensures { told result ≡ serial_step self image.now back }
     {
-        let load = self.load;
-        let place = self.place;
-        if ranges::is_outside(load, place) {
-            return Stepped::Refused(13);
+        if ranges::is_outside(self.load, self.place) {
+            return Err(Refusal::Record);
         }
-        if place.has_ended() {
-            return Stepped::Refused(14);
+        if self.place.has_ended() {
+            return Err(Refusal::Ended);
         }
-        if replies::is_wrong(place, back) {
-            return Stepped::Refused(15);
+        if replies::is_wrong(self.place, back) {
+            return Err(Refusal::Reply);
         }
-        if load.is_other_image(image) {
-            return Stepped::Refused(5);
+        if self.load.is_other_image(image) {
+            return Err(Refusal::Length);
         }
-        Stepped::Taken(turn_of(self, image, back))
+        Ok(self.turn(image, back))
     }
 
     // Whether the next step looks at what came back: after a pair of the connection, of the version or of a wait.
     pub fn awaits_reply(self) -> bool
         ensures { result ≡ awaits self.place.phase self.place.index }
     {
-        let place = self.place;
-        let phase = place.phase;
-        replies::awaits(phase, place.index)
+        replies::awaits(self.place)
     }
 
-    // Whether the session goes on, or how it has ended.
-    pub fn end(self) -> HostEnd
+    // How the session has ended; none while it goes on.
+    pub fn end(self) -> Option<Ending>
         ensures { told_end result ≡ end_at self.place.phase }
     {
-        let place = self.place;
-        let phase = place.phase;
-        phase.end()
+        self.place.phase.end()
     }
-}
 
-fn turn_of(serial: Serial, image: &[u8], back: Wire) -> Turn
-    ensures { result ≡ turn_of serial image.now back }
-{
-    let load = serial.load;
-    let place = serial.place;
-    turn_at(serial, image, replies::resumed(place, load, back))
-}
+    fn turn(self, image: &[u8], back: Option<u8>) -> Turn
+        ensures { result ≡ turn_of self image.now back }
+    {
+        self.turn_at(image, replies::resumed(self.place, self.load, back))
+    }
 
-fn turn_at(serial: Serial, image: &[u8], place: Place) -> Turn
-    ensures { result ≡ turn_at serial image.now place.phase place.index }
-{
-    let packing = serial.packing;
-    let load = serial.load;
-    if place.has_ended() {
-        return Turn {
-            sent: Wire::Nothing,
+    fn turn_at(self, image: &[u8], place: Place) -> Turn
+        ensures { result ≡ turn_at self image.now place.phase place.index }
+    {
+        if place.has_ended() {
+            return Turn {
+                sent: None,
+                serial: Serial { place, ..self },
+            };
+        }
+        let filling = packing::sent_at(self.packing, self.load, image, place);
+        Turn {
+            sent: Some(filling.frame.byte()),
             serial: Serial {
-                packing,
-                load,
-                place,
+                place: filling.place,
+                ..self
             },
-        };
-    }
-    let filling = packing::sent_at(packing, load, image, place);
-    let frame = filling.frame;
-    let next = filling.place;
-    Turn {
-        sent: Wire::Byte(frame.byte()),
-        serial: Serial {
-            packing,
-            load,
-            place: next,
-        },
+        }
     }
 }

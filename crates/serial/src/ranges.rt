@@ -8,8 +8,5 @@ use place::Place;
 pub(crate) fn is_outside(load: Load, place: Place) -> bool
     ensures { result ≡ serial_outside load place }
 {
-    if load.is_outside() {
-        return true;
-    }
-    range::is_outside(place, load)
+    load.is_outside() || range::is_outside(place, load)
 }
