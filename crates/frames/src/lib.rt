@@ -5,7 +5,7 @@ ghost use Rattle.std.specs.Prelude.{◌≡◌};
 ghost use Rattle.frames.specs.Frames.{byte_of, fits, lows_of, width, with};
 
 // A byte that is being filled: its low bit times, the first in the lowest place, and how many bit times are used.
-#[derive(Clone, Copy)]
+#[derive(Clone, Copy, PartialEq, Eq, Debug)]
 pub struct Frame {
     pub lows: u16,
     pub used: u8,

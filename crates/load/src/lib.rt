@@ -11,7 +11,7 @@ use terms::Refusal;
 use units::Bytes;
 
 // A command, and the length of the image that goes with it: 0 for command 0, which has none.
-#[derive(Clone, Copy)]
+#[derive(Clone, Copy, PartialEq, Eq, Debug)]
 pub struct Load {
     pub command: u32,
     pub length: Bytes,

@@ -18,7 +18,7 @@ pub enum Packing {
 }
 
 // A byte that is filled: its frame, and the place of the next bit.
-#[derive(Clone, Copy)]
+#[derive(Clone, Copy, PartialEq, Eq, Debug)]
 pub struct Filling {
     pub frame: Frame,
     pub place: Place,

@@ -1,5 +1,6 @@
 -- Where no reply is awaited, neither row 15 nor the place from which the next byte is filled goes by what came back.
 -- Assumes nothing.
+use Rattle.std.specs.Prelude.{Option}
 use mathlib.Core.Bool.{false}
 use mathlib.Core.Path.{◌≡◌, refl, sym, ◌∙◌}
 use Prim.Native.Nat.{ℕ}
@@ -14,10 +15,9 @@ use Rattle.serial.specs.Ignored.{ElsewhereIgnored}
 use Rattle.serial.specs.Phases.{awaits}
 use Rattle.serial.specs.Replies.{came, wrong_reply, resumed}
 use Rattle.serial.specs.Step.{turn_of, serial_step}
-use Rattle.serial.specs.declared.Wire.{Wire}
 use Rattle.serial.proofs.Places.{first_onward}
 
-never_wrong : (phase : Phase) (i : ℕ) (back : Wire) → awaits phase i ≡ false → wrong_reply phase i back ≡ false
+never_wrong : (phase : Phase) (i : ℕ) (back : Option ℕ) → awaits phase i ≡ false → wrong_reply phase i back ≡ false
 unfolding wrong_reply both
 never_wrong phase i back e = rw e refl
 

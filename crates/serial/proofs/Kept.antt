@@ -1,5 +1,6 @@
 -- A start hands out a record within its ranges, and each step keeps it there.
 -- Assumes nothing.
+use Rattle.std.specs.Prelude.{Option}
 use mathlib.Core.Bool.{Bool, false}
 use mathlib.Core.List.{List}
 use mathlib.Core.Path.{◌≡◌, sym, subst}
@@ -26,7 +27,6 @@ use Rattle.packing.specs.Filling.{paired, sent_at}
 use Rattle.serial.specs.Replies.{came, resumed}
 use Rattle.serial.specs.Step.{serial_start, serial_outside, serial_rows, resumed_at, turn_at, turn_of, serial_step}
 use Rattle.packing.specs.declared.Filling.{Filling}
-use Rattle.serial.specs.declared.Wire.{Wire}
 use Rattle.packing.specs.declared.Packing.{Packing}
 use Rattle.serial.specs.declared.Serial.{Serial}
 use Rattle.serial.specs.declared.Turn.{Turn}
@@ -105,7 +105,7 @@ start_keeps packing command image s e =
     subst (λ (x : Serial). Within x.load x.place) (sym p.1)
     (record { loaded = loaded; stands = opened_stands load (load_within load loaded).long 0 Calibration (omega arith) (omega arith) })
 
-pub step_keeps : (s : Serial) (image : List ℕ) (back : Wire) (t : Turn) → serial_step s image back ≡ taken t
+pub step_keeps : (s : Serial) (image : List ℕ) (back : Option ℕ) (t : Turn) → serial_step s image back ≡ taken t
     → Within t.serial.load t.serial.place
 unfolding serial_step turn_of
 step_keeps s image back t e =

@@ -1,5 +1,6 @@
 -- No record got from a start by steps that weren't refused is refused 13, and one that has ended is refused 14.
 -- Assumes nothing.
+use Rattle.std.specs.Prelude.{Option}
 use mathlib.Core.Bool.{true, true≢false}
 use mathlib.Core.List.{List}
 use mathlib.Core.Logic.{inl, inr}
@@ -12,7 +13,6 @@ use Rattle.terms.proofs.Tests.{when_true, when_false}
 use Rattle.place.specs.Phases.{ended}
 use Rattle.serial.specs.Reached.{Reached, started, stepped}
 use Rattle.serial.specs.Step.{serial_rows, turn_of, serial_step}
-use Rattle.serial.specs.declared.Wire.{Wire}
 use Rattle.serial.specs.declared.Serial.{Serial}
 use Rattle.serial.proofs.Kept.{Within, not_outside, start_keeps, step_keeps}
 
@@ -20,7 +20,7 @@ pub reached_within : (s : Serial) → Reached s → Within s.load s.place
 reached_within s (started packing command image _ e) = start_keeps packing command image s e
 reached_within _ (stepped s image back t r e) = step_keeps s image back t e
 
-module _ (s : Serial) (r : Reached s) (image : List ℕ) (back : Wire) where
+module _ (s : Serial) (r : Reached s) (image : List ℕ) (back : Option ℕ) where
   no_13 : Given 13 (serial_rows s image back) → ⊥
   no_13 g = elim g [
     | inl p ↦ true≢false (sym p.1 ∙ not_outside s.load s.place (reached_within s r))

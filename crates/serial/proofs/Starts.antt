@@ -3,9 +3,7 @@
 use mathlib.Core.List.{List}
 use mathlib.Core.Path.{◌≡◌, sym, ap, ◌∙◌}
 use Prim.Native.Nat.{ℕ}
-use Rattle.std.specs.Prelude.{Result, Ok, Err}
-use Rattle.terms.specs.Refusals.{refused, taken, number, told}
-use Rattle.terms.specs.declared.Refusal.{Refusal}
+use Rattle.terms.specs.Refusals.{refused, taken}
 use Rattle.terms.proofs.Refusals.{refused_alike, taken_alike}
 use Rattle.load.specs.Load.{load_rows, load_of, accepted}
 use Rattle.load.specs.declared.Load.{Load}
@@ -14,16 +12,14 @@ use Rattle.packing.specs.declared.Packing.{Packing}
 use Rattle.serial.specs.declared.Serial.{Serial}
 
 module _ (packing : Packing) (command : ℕ) (image : List ℕ) where
-  pub start_refused : (r : Result Load Refusal) (n : Refusal) → r ≡ Err n → told r ≡ accepted command image
-      → refused (number n) ≡ serial_start packing command image
+  pub start_refused : (n : ℕ) → refused n ≡ accepted command image → refused n ≡ serial_start packing command image
   unfolding accepted serial_start
-  start_refused r n e q = sym (refused_alike (load_rows command image) _ _ (number n) (sym q ∙ ap told e))
+  start_refused n q = sym (refused_alike (load_rows command image) _ _ n (sym q))
 
-  pub start_taken : (r : Result Load Refusal) (l : Load) → r ≡ Ok l → told r ≡ accepted command image
-      → taken (fresh packing l) ≡ serial_start packing command image
+  pub start_taken : (l : Load) → taken l ≡ accepted command image → taken (fresh packing l) ≡ serial_start packing command image
   unfolding accepted serial_start
-  start_taken r l e q =
-      let p = taken_alike (load_rows command image) (load_of command image) (fresh packing (load_of command image)) l (sym q ∙ ap told e) in
+  start_taken l q =
+      let p = taken_alike (load_rows command image) (load_of command image) (fresh packing (load_of command image)) l (sym q) in
       ap (λ (x : Load). taken (fresh packing x)) p.1 ∙ sym p.0
 
   pub start_load : (s : Serial) → serial_start packing command image ≡ taken s

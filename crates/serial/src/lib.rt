@@ -33,6 +33,7 @@ pub struct Turn {
 
 impl Serial {
     // The session before its first byte, or the first of the load's refusals that applies.
+    #[tactic(auto, using(terms::proofs::Refusals::walk), unfolding(crate::specs::Step::serial_start))]
     pub fn start(packing: Packing, command: u32, image: &[u8]) -> Result<Serial, Refusal>
         ensures { told result ≡ serial_start packing command image.now }
     {
@@ -50,6 +51,7 @@ impl Serial {
     // The next byte, or none where what came back ends the session; or a refusal: of a record out of its ranges, of one that has ended,
     // of a reply that is neither $FE nor $FF, of an image of another length than at the start. `back` is the byte that came back for the
     // one before, if any did.
+    #[tactic(auto, using(terms::proofs::Refusals::walk), unfolding(crate::specs::Step::serial_step))]
     pub fn step(self, image: &[u8], back: Option<u8>) -> Result<Turn, Refusal>
         ensures { told result ≡ serial_step self image.now back }
     {
@@ -82,12 +84,14 @@ impl Serial {
         self.place.phase.end()
     }
 
+    #[tactic(auto, unfolding(crate::specs::Step::turn_of))]
     fn turn(self, image: &[u8], back: Option<u8>) -> Turn
         ensures { result ≡ turn_of self image.now back }
     {
         self.turn_at(image, replies::resumed(self.place, self.load, back))
     }
 
+    #[tactic(auto, using(terms::proofs::Refusals::walk), unfolding(crate::specs::Step::turn_at))]
     fn turn_at(self, image: &[u8], place: Place) -> Turn
         ensures { result ≡ turn_at self image.now place.phase place.index }
     {

@@ -5,6 +5,7 @@ ghost use Rattle.serial.specs.Step.{serial_outside};
 use load::Load;
 use place::Place;
 
+#[tactic(auto, using(terms::proofs::Refusals::walk), unfolding(crate::specs::Step::serial_outside))]
 pub(crate) fn is_outside(load: Load, place: Place) -> bool
     ensures { result ≡ serial_outside load place }
 {
