@@ -5,15 +5,11 @@ use mathlib.Core.List.{List}
 use mathlib.Core.Path.{◌≡◌, sym, ap, ◌∙◌}
 use Prim.Native.Nat.{ℕ}
 use Rattle.terms.specs.Refusals.{refused, taken}
-use Rattle.host.specs.Step.{host_start, told_begun}
-use Rattle.host.specs.declared.Begun.{Begun}
-use Rattle.host.specs.declared.Begun.TheVariants as begins
+use Rattle.host.specs.Step.{host_start}
 use Rattle.host.specs.declared.Host.{Host}
 use Rattle.place.specs.Phases.{ended}
-use Rattle.chip.specs.Step.{chip_start, told_started}
+use Rattle.chip.specs.Step.{chip_start}
 use Rattle.chip.specs.declared.Chip.{Chip}
-use Rattle.chip.specs.declared.Started.{Started}
-use Rattle.chip.specs.declared.Started.TheVariants as starts
 use Rattle.eeprom.specs.declared.Fault.{Fault}
 use Rattle.joined.specs.Joined.{rounded_down, host_ended, played, begun}
 use Rattle.joined.specs.Run.{budget, Outcome, outcome, left, finished, from_chip, from_host, run_of, state}
@@ -21,31 +17,25 @@ use Rattle.joined.specs.declared.Joined.{Joined}
 use Rattle.joined.proofs.Budget.{run_ends}
 
 module _ (t h p command : ℕ) (image : List ℕ) (fault : Fault) (l : ℕ) (ram eeprom : List ℕ) where
-  pub host_refused : (r : Begun) (n : ℕ) → r ≡ begins.Refused n → told_begun r ≡ host_start t h p command image
+  pub host_refused : (n : ℕ) → refused n ≡ host_start t h p command image
       → left (refused n) ram eeprom ≡ run_of t h p command image fault l ram eeprom
   unfolding run_of
-  host_refused r n e q = ap (from_host (rounded_down p l) image ram eeprom fault) (ap told_begun (sym e) ∙ q)
+  host_refused n q = ap (from_host (rounded_down p l) image ram eeprom fault) q
 
-  module _ (r : Begun) (host : Host) (e : r ≡ begins.Taken host) (q : told_begun r ≡ host_start t h p command image) where
-    host_taken : taken host ≡ host_start t h p command image
-    host_taken = ap told_begun (sym e) ∙ q
-
+  module _ (host : Host) (started : taken host ≡ host_start t h p command image) where
     from_chip_lem : from_chip (rounded_down p l) image ram eeprom host (chip_start ram eeprom fault) ≡ run_of t h p command image fault l ram eeprom
     unfolding run_of
-    from_chip_lem = ap (from_host (rounded_down p l) image ram eeprom fault) host_taken
+    from_chip_lem = ap (from_host (rounded_down p l) image ram eeprom fault) started
 
-    pub chip_refused : (c : Started) (n : ℕ) → c ≡ starts.Refused n → told_started c ≡ chip_start ram eeprom fault
+    pub chip_refused : (n : ℕ) → refused n ≡ chip_start ram eeprom fault
         → left (refused n) ram eeprom ≡ run_of t h p command image fault l ram eeprom
-    chip_refused c n d w = ap (from_chip (rounded_down p l) image ram eeprom host) (ap told_started (sym d) ∙ w) ∙ from_chip_lem
+    chip_refused n w = ap (from_chip (rounded_down p l) image ram eeprom host) w ∙ from_chip_lem
 
-    module _ (c : Started) (chip : Chip) (d : c ≡ starts.Taken chip) (w : told_started c ≡ chip_start ram eeprom fault) (j : Joined)
+    module _ (chip : Chip) (begins : taken chip ≡ chip_start ram eeprom fault) (j : Joined)
         (ram' eeprom' : List ℕ) (u : state j ram' eeprom' ≡ played (rounded_down p l) image budget (begun host chip ram eeprom)) where
-      chip_taken : taken chip ≡ chip_start ram eeprom fault
-      chip_taken = ap told_started (sym d) ∙ w
-
       pub run_ended : ended j.host.session.place.phase ≡ true
       run_ended =
-          let end = run_ends (rounded_down p l) image t h p command host (sym host_taken) ram eeprom fault chip (sym chip_taken) in
+          let end = run_ends (rounded_down p l) image t h p command host (sym started) ram eeprom fault chip (sym begins) in
           ap host_ended (u ∙ end.run) ∙ end.ended
 
       pub run_finished : (o : Outcome) → o ≡ outcome j.host j.chip j.rise.0 j.risen
@@ -53,5 +43,5 @@ module _ (t h p command : ℕ) (image : List ℕ) (fault : Fault) (l : ℕ) (ram
       run_finished o is =
           ap (λ (x : Outcome). left (taken x) ram' eeprom') is
           ∙ ap finished u
-          ∙ ap (from_chip (rounded_down p l) image ram eeprom host) chip_taken
+          ∙ ap (from_chip (rounded_down p l) image ram eeprom host) begins
           ∙ from_chip_lem

@@ -6,18 +6,18 @@ use mathlib.Core.Path.{◌≡◌, refl, sym, ap, ◌∙◌}
 use Prim.Native.Nat.{ℕ, zero, suc, ◌+◌, ◌-◌, ◌<◌, ◌≤◌}
 use native.Mathlib.Numerals.{add-one}
 use native.Mathlib.Omega.{arith}
+use Rattle.std.specs.Prelude.{Result, Ok, Err}
+use Rattle.terms.specs.Refusals.{told}
+use Rattle.terms.specs.declared.Refusal.{Refusal}
 use Rattle.terms.proofs.Tests.{when_true, when_false}
 use Rattle.units.proofs.Lines.{seen_told}
 use Rattle.units.specs.declared.Seen.{Seen}
 use Rattle.units.specs.declared.Seen.TheVariants.{Silence}
-use Rattle.host.specs.Step.{host_step, told_planned}
-use Rattle.host.specs.declared.Planned.{Planned}
+use Rattle.host.specs.Step.{host_step}
 use Rattle.host.specs.declared.Sent.{Sent}
 use Rattle.phases.specs.Phases as chip
-use Rattle.chip.specs.Step.{Left, left, chip_step, told_stepped}
+use Rattle.chip.specs.Step.{Left, left, chip_step}
 use Rattle.chip.specs.declared.Played.{Played}
-use Rattle.chip.specs.declared.Stepped.{Stepped}
-use Rattle.chip.specs.declared.Stepped.TheVariants as stepped
 use Rattle.bits.specs.Seeing.{sees}
 use Rattle.joined.specs.Joined.{State, Measuring, waited, lasted, listened, met, sent_to, pulsed, host_ended, played}
 use Rattle.joined.specs.Run.{state, after}
@@ -58,10 +58,10 @@ module _ (measured : Measuring) (image : List ℕ) where
     seen = sees j.host.session.place.phase j.host.session.place.index j.reply
 
     -- By what the host answers.
-    pub pulse_told : (r a : Planned) (s : Seen) (x : State) → r ≡ a → told_planned r ≡ host_step j.host image s → s ≡ seen
-        → x ≡ sent_to measured here (told_planned a) → x ≡ pulsed measured image here
+    pub pulse_told : (r a : Result Sent Refusal) (s : Seen) (x : State) → r ≡ a → told r ≡ host_step j.host image s → s ≡ seen
+        → x ≡ sent_to measured here (told a) → x ≡ pulsed measured image here
     unfolding pulsed
-    pulse_told r a s x e q w h = h ∙ ap (sent_to measured here) (ap told_planned (sym e) ∙ q ∙ ap (host_step j.host image) w)
+    pulse_told r a s x e q w h = h ∙ ap (sent_to measured here) (ap told (sym e) ∙ q ∙ ap (host_step j.host image) w)
 
 -- What the chip makes of it.
 module _ (measured : Measuring) (j : Joined) (ram eeprom : List ℕ) where
@@ -81,15 +81,15 @@ module _ (measured : Measuring) (j : Joined) (ram eeprom : List ℕ) where
     stepped_so l wait low ticks q w d b listens = rw (when_false _ _ listens, ← b, ← d, ← w) q
 
     -- By what its step answers.
-    module _ (x : Joined) (ram' eeprom' : List ℕ) (r : Stepped) (so : left (told_stepped r) ram' eeprom' ≡ listened measured (state j ram eeprom) sent) where
-      listened_told : (a : Stepped) → r ≡ a → state x ram' eeprom' ≡ met j.chip sent (left (told_stepped a) ram' eeprom')
+    module _ (x : Joined) (ram' eeprom' : List ℕ) (r : Result Played Refusal) (so : left (told r) ram' eeprom' ≡ listened measured (state j ram eeprom) sent) where
+      listened_told : (a : Result Played Refusal) → r ≡ a → state x ram' eeprom' ≡ met j.chip sent (left (told a) ram' eeprom')
           → state x ram' eeprom' ≡ met j.chip sent (listened measured (state j ram eeprom) sent)
       listened_told a e h = rw (← so, e) h
 
-      pub listened_refused : (n : ℕ) → r ≡ stepped.Refused n → x ≡ after sent j.chip Silence
+      pub listened_refused : (n : Refusal) → r ≡ Err n → x ≡ after sent j.chip Silence
           → state x ram' eeprom' ≡ met j.chip sent (listened measured (state j ram eeprom) sent)
-      listened_refused n e h = listened_told (stepped.Refused n) e (rw h)
+      listened_refused n e h = listened_told (Err n) e (rw h)
 
-      pub listened_played : (p : Played) → r ≡ stepped.Taken p → x ≡ after sent p.chip p.reply
+      pub listened_played : (p : Played) → r ≡ Ok p → x ≡ after sent p.chip p.reply
           → state x ram' eeprom' ≡ met j.chip sent (listened measured (state j ram eeprom) sent)
-      listened_played p e h = listened_told (stepped.Taken p) e (rw (h, seen_told p.reply))
+      listened_played p e h = listened_told (Ok p) e (rw (h, seen_told p.reply))

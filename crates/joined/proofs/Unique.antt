@@ -2,8 +2,10 @@
 -- that is generated from its contract.
 -- Assumes nothing.
 use mathlib.Core.Path.{◌≡◌, refl, sym, ap, ◌∙◌}
-use Rattle.terms.proofs.Answers.{OneOutcome, Leaves, back, one_left}
-use Rattle.terms.specs.Refusals.{Answer}
+use Rattle.terms.proofs.Answers.{OneOutcome, Leaves, named, named_number, one_left}
+use Rattle.std.specs.Prelude.{Result, Ok, Err}
+use Rattle.terms.specs.Refusals.{Answer, refused, taken}
+use Rattle.terms.specs.declared.Refusal.{Refusal}
 use Rattle.place.specs.declared.Ending.{Ending}
 use Rattle.place.specs.declared.Ending.TheVariants.{Lost}
 use Rattle.place.specs.Endings as host
@@ -11,8 +13,7 @@ use Rattle.place.proofs.Endings.{numbered, numbered_number}
 use Rattle.phases.proofs.Endings.{back_end, back_told_end}
 use Rattle.margins.proofs.Unique as margins
 use Rattle.joined.specs.Run.{Outcome, Left, told_ran}
-use Rattle.joined.specs.declared.Ran.{Ran}
-use Rattle.joined.specs.declared.Ran.TheVariants as ran
+use Rattle.joined.specs.declared.Report.{Report}
 use Rattle.joined.proofs.run.Kinds as run_kinds
 use Rattle.joined.proofs.run.Reads as run
 
@@ -21,8 +22,9 @@ abbrev ending_of : host.End → Ending
 ending_of host.going = Lost
 ending_of (host.ended n) = numbered n
 
-abbrev back_ran : Answer Outcome → Ran
-back_ran = back ran.Refused (λ o. ran.Finished (record {
+abbrev back_ran : Answer Outcome → Result Report Refusal
+back_ran (refused n) = Err (named n)
+back_ran (taken o) = Ok (record {
   pulses = o.pulses;
   ones = o.ones;
   zeros = o.zeros;
@@ -32,12 +34,12 @@ back_ran = back ran.Refused (λ o. ran.Finished (record {
   host = ending_of o.host;
   chip = back_end o.chip;
   nearest = margins.back o.nearest;
-}))
+})
 
-pub back_told_ran : (r : Ran) → back_ran (told_ran r) ≡ r
-back_told_ran (ran.Refused n) = refl
-back_told_ran (ran.Finished r) =
-    λ i. ran.Finished (record {
+pub back_told_ran : (r : Result Report Refusal) → back_ran (told_ran r) ≡ r
+back_told_ran (Err n) = ap Err (named_number n)
+back_told_ran (Ok r) =
+    λ i. Ok (record {
       pulses = r.pulses;
       ones = r.ones;
       zeros = r.zeros;
@@ -49,7 +51,7 @@ back_told_ran (ran.Finished r) =
       nearest = margins.back_told r.nearest i;
     })
 
-pub run_one : OneOutcome run_kinds.ps run_kinds.r run.Post {X = Leaves Ran}
+pub run_one : OneOutcome run_kinds.ps run_kinds.r run.Post {X = Leaves (Result Report Refusal)}
     (λ κs r e. record { answer = r; ram = e.1.1.1.1.1.1.1.0.now; eeprom = e.1.1.1.1.1.1.1.1.0.now })
 run_one κs a r₁ r₂ e₁ e₂ p q =
     one_left told_ran back_ran back_told_ran _ _

@@ -1,7 +1,8 @@
 -- 01, "Host joined to chip" and the lines of `planned`, and 02, "Four" and "Six": a whole run.
 -- Assumes nothing.
-use Rattle.std.specs.Prelude.{List, ℕ}
-use Rattle.terms.specs.Refusals.{Answer, refused, taken}
+use Rattle.std.specs.Prelude.{List, ℕ, Result, Ok, Err}
+use Rattle.terms.specs.Refusals.{Answer, refused, taken, number}
+use Rattle.terms.specs.declared.Refusal.{Refusal}
 use Rattle.units.specs.declared.Seen.{Seen}
 use Rattle.place.specs.Endings as place
 use Rattle.host.specs.Step.{host_start}
@@ -15,8 +16,6 @@ use Rattle.chip.specs.declared.Chip.{Chip}
 use Rattle.ticks.specs.declared.PhaseTicks.{PhaseTicks}
 use Rattle.joined.specs.Joined.{State, Measuring, rounded_down, played, begun}
 use Rattle.joined.specs.declared.Joined.{Joined}
-use Rattle.joined.specs.declared.Ran.{Ran}
-use Rattle.joined.specs.declared.Ran.TheVariants as ran
 use Rattle.joined.specs.declared.Report.{Report}
 
 -- What a run comes to: pulses sent, bits 1, bits 0, the tick of the last rise and its exact time, the ticks of each phase, where host and
@@ -89,9 +88,9 @@ told_report r = record {
   nearest = margins.told r.nearest;
 }
 
-abbrev pub told_ran : Ran → Answer Outcome
-told_ran (ran.Refused n) = refused n
-told_ran (ran.Finished r) = taken (told_report r)
+abbrev pub told_ran : Result Report Refusal → Answer Outcome
+told_ran (Err n) = refused (number n)
+told_ran (Ok r) = taken (told_report r)
 
 -- Host and chip as the code keeps them, with the memories that are lent to it.
 abbrev pub state : Joined → List ℕ → List ℕ → State

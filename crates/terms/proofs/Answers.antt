@@ -28,7 +28,7 @@ OneOutcome {n} ps r Post left =
     Post κs a r₁ e₁ → Post κs a r₂ e₂ → left κs r₁ e₁ ≡ left κs r₂ e₂
 
 -- The refusal of a number. 0, 20 to 26 and those above 27 are of none.
-abbrev named : ℕ → Refusal
+abbrev pub named : ℕ → Refusal
 named n =
     get_or
     (Room
