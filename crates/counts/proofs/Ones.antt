@@ -1,18 +1,18 @@
 -- The ones among bits: those of a number are what a processor counts, and those of an image's bits are those of its bytes.
 -- Assumes nothing.
 use mathlib.Core.Bool.{Bool}
-use mathlib.Core.List.{List, [], ◌∷◌, map}
-use mathlib.Core.Path.{◌≡◌, refl, sym, ap, ap₂, ◌∙◌}
+use mathlib.Core.List.{List, [], ◌∷◌}
+use mathlib.Core.Path.{◌≡◌, refl, ap, ap₂, ◌∙◌}
 use Prim.Native.Nat.{ℕ, zero, suc, ◌+◌, ◌*◌, ◌/◌, ◌%◌, ◌^◌, ◌≤◌, ◌<◌}
 use native.Mathlib.Omega.{arith}
 use native.Mathlib.Nat.{add-zero, pow-suc}
-use native.Mathlib.Numerals.{add-one}
 use lib.Count as counts
 use lib.Dec.{eqb}
-use lib.ListN.{length, get_or, take}
+use lib.ListN.{length, get_or}
 use lib.Pow.{shr-shr}
-use lib.Seq.{take_all}
 use borrow.Author.Tests.{eqb-true, eqb-false}
+use Rattle.std.specs.List.{sum_by}
+use Rattle.std.proofs.lemmas.List.Recursion.{is_sum_by}
 use Rattle.terms.specs.Choice.{when}
 use Rattle.terms.proofs.Tests.{when_elim}
 use Rattle.lent.specs.Bytes.{total}
@@ -95,35 +95,7 @@ image_ones_lem (b ∷ image) =
 pub image_most : (image : List ℕ) → image_ones image ≤ length image * 8
 image_most image = omega (arith, image_ones_lem image, ones_most (image_bit image) 0 (length image * 8))
 
--- The ones of the bytes before a place.
-module _ (image : List ℕ) where
-  abbrev pub Before : ℕ → ℕ → Type 0
-  Before at ones = (at ≤ length image) × (ones ≡ total (map byte_ones (take at image)))
-
-  pub before_none : Before 0 0
-  unfolding total
-  before_none = (omega arith, refl)
-
-more_byte : (image : List ℕ) (n : ℕ) → n < length image
-    → total (map byte_ones (take (suc n) image)) ≡ total (map byte_ones (take n image)) + byte_ones (get_or image n 0)
+-- The library adds the ones of byte after byte.
+pub image_sum : (image : List ℕ) → image_ones image ≡ sum_by byte_ones image
 unfolding total
-more_byte [] n h = absurd (omega (arith, h))
-more_byte (b ∷ image) zero h = omega arith
-more_byte (b ∷ image) (suc n) h = omega (arith, more_byte image n (omega (arith, h)))
-
-pub before_most : (image : List ℕ) (n : ℕ) → total (map byte_ones (take n image)) ≤ n * 8
-unfolding total
-before_most [] zero = omega arith
-before_most [] (suc n) = omega arith
-before_most (b ∷ image) zero = omega arith
-before_most (b ∷ image) (suc n) = omega (arith, before_most image n, ones_most (value_bit b) 0 8)
-
-pub before_one : (image : List ℕ) (at ones more : ℕ) → Before image at ones → at < length image → more ≡ byte_ones (get_or image at 0)
-    → Before image (at + 1) (ones + more)
-before_one image at ones more b h e = (
-  omega arith,
-  ap₂ (λ (x y : ℕ). x + y) b.1 e ∙ sym (more_byte image at h) ∙ ap (λ (k : ℕ). total (map byte_ones (take k image))) (sym (add-one at)),
-)
-
-pub before_all : (image : List ℕ) (at ones : ℕ) → Before image at ones → length image ≤ at → ones ≡ image_ones image
-before_all image at ones b h = b.1 ∙ ap (λ (l : List ℕ). total (map byte_ones l)) (take_all at image h)
+image_sum image = is_sum_by image_ones byte_ones refl (λ _ _. refl) image

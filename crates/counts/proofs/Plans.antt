@@ -6,11 +6,11 @@ use Prim.Native.Nat.{ℕ, ◌*◌, ◌/◌, ◌≤◌}
 use lib.ListN.{length}
 use borrow.Author.Tests.{eq-eqb, ne_eqb}
 use Rattle.terms.specs.Choice.{when}
-use Rattle.terms.specs.Refusals.{refused, taken}
+use Rattle.std.specs.Prelude.{Result, Ok, Err}
+use Rattle.terms.specs.Refusals.{number, refused, taken, told}
+use Rattle.terms.specs.declared.Refusal.{Refusal}
 use Rattle.terms.proofs.Refusals.{refused_alike, taken_alike}
-use Rattle.load.specs.Load.{load_rows, load_of, accepted, told_accepted}
-use Rattle.load.specs.declared.Accepted.{Accepted}
-use Rattle.load.specs.declared.Accepted.TheVariants.{Refused, Taken}
+use Rattle.load.specs.Load.{load_rows, load_of, accepted}
 use Rattle.load.specs.declared.Load.{Load}
 use Rattle.load.proofs.Exactly.{load_taken}
 use Rattle.counts.specs.Counts.{none, bits_with, answered, unspaced, after_version, value_ones, image_ones, planned, counted}
@@ -44,14 +44,14 @@ module _ (command : ℕ) (image : List ℕ) where
   unfolding planned when
   planned_others some more = rw (ne_eqb command 0 some, ne_eqb command 1 more)
 
-  pub counted_refused : (r : Accepted) (n : ℕ) → r ≡ Refused n → told_accepted r ≡ accepted command image → refused n ≡ counted command image
+  pub counted_refused : (r : Result Load Refusal) (e : Refusal) → r ≡ Err e → told r ≡ accepted command image → refused (number e) ≡ counted command image
   unfolding accepted counted
-  counted_refused r n e q = sym (refused_alike (load_rows command image) _ _ n (sym q ∙ ap told_accepted e))
+  counted_refused r e is q = sym (refused_alike (load_rows command image) _ _ (number e) (sym q ∙ ap told is))
 
-  pub load_known : (r : Accepted) (l : Load) → r ≡ Taken l → told_accepted r ≡ accepted command image
+  pub load_known : (r : Result Load Refusal) (l : Load) → r ≡ Ok l → told r ≡ accepted command image
       → accepted command image ≡ taken (load_of command image)
   unfolding accepted
-  load_known r l e q = (taken_alike (load_rows command image) (load_of command image) (load_of command image) l (sym q ∙ ap told_accepted e)).0
+  load_known r l e q = (taken_alike (load_rows command image) (load_of command image) (load_of command image) l (sym q ∙ ap told e)).0
 
   pub counted_taken : (p : Plan) → accepted command image ≡ taken (load_of command image) → p ≡ planned command image
       → taken p ≡ counted command image

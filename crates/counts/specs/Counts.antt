@@ -3,13 +3,11 @@
 -- Assumes nothing.
 use Rattle.std.specs.Prelude.{Bool, List, [], ◌∷◌, map, ℕ, zero, suc, ◌+◌, ◌-◌, ◌*◌, ◌/◌, eqb, length}
 use Rattle.terms.specs.Choice.{when}
-use Rattle.terms.specs.Refusals.{Answer, refused, taken, first}
+use Rattle.terms.specs.Refusals.{Answer, first}
 use Rattle.lent.specs.Bytes.{total}
 use Rattle.sequence.specs.Sequence.{draw}
 use Rattle.load.specs.Load.{load_rows}
 use Rattle.bits.specs.Bits.{value_bit}
-use Rattle.counts.specs.declared.Counted.{Counted}
-use Rattle.counts.specs.declared.Counted.TheVariants.{Refused, Taken}
 use Rattle.counts.specs.declared.Counts.{Counts}
 use Rattle.counts.specs.declared.Plan.{Plan}
 
@@ -94,8 +92,3 @@ ones_of p = sum_of (λ (c : Counts). c.ones) p
 
 abbrev pub zeros_of : Plan → ℕ
 zeros_of p = sum_of (λ (c : Counts). c.zeros) p
-
--- What an answer tells: its number where it is a refusal, otherwise the plan.
-abbrev pub told_counted : Counted → Answer Plan
-told_counted (Refused n) = refused n
-told_counted (Taken p) = taken p

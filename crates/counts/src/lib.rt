@@ -2,11 +2,12 @@
 #![tactic(auto)]
 
 ghost use Rattle.std.specs.Prelude.{◌≡◌, ◌+◌, ◌*◌, ◌≤◌, ◌<◌, length};
-ghost use Rattle.terms.specs.Refusals.{taken};
+ghost use Rattle.terms.specs.Refusals.{taken, told};
 ghost use Rattle.load.specs.Load.{accepted, load_of};
-ghost use Rattle.counts.specs.Counts.{after_version, bits_with, byte_ones, counted, image_ones, ones_of, pairs_of, planned, told_counted, unspaced, value_ones, zeros_of};
+ghost use Rattle.counts.specs.Counts.{after_version, bits_with, byte_ones, counted, image_ones, ones_of, pairs_of, planned, unspaced, value_ones, zeros_of};
 
-use load::{Accepted, Load};
+use load::Load;
+use terms::Refusal;
 
 // Bits 1, bits 0, ordinary spacers, and the longer spacers after silent pairs.
 #[derive(Clone, Copy)]
@@ -33,25 +34,18 @@ pub struct Plan {
     pub verification: Counts,
 }
 
-// What `Plan::new` answers: a refusal by its number, or the plan.
-#[derive(Clone, Copy)]
-pub enum Counted {
-    Refused(u8),
-    Taken(Plan),
-}
-
 impl Plan {
     // The plan of a command with its image, or the first refusal that applies, 4 to 9.
-    pub fn new(command: u32, image: &[u8]) -> Counted
-        ensures { told_counted result ≡ counted command image.now }
+    #[tactic(auto, using(crate::proofs::Plans::counted_refused))]
+    pub fn new(command: u32, image: &[u8]) -> Result<Plan, Refusal>
+        ensures { told result ≡ counted command image.now }
     {
-        match Load::new(command, image) {
-            Accepted::Refused(n) => Counted::Refused(n),
-            Accepted::Taken(_) => Counted::Taken(planned(command, image)),
-        }
+        Load::new(command, image)?;
+        Ok(planned(command, image))
     }
 
     // The bits 1 of all phases.
+    #[tactic(auto, using(crate::proofs::Sums::sum_is))]
     pub fn ones(self) -> u64
         ensures { result ≡ ones_of self }
     {
@@ -70,6 +64,7 @@ impl Plan {
     }
 
     // The bits 0 of all phases.
+    #[tactic(auto, using(crate::proofs::Sums::sum_is))]
     pub fn zeros(self) -> u64
         ensures { result ≡ zeros_of self }
     {
@@ -103,6 +98,7 @@ const ANSWERED: Counts = Counts {
     silent: 1,
 };
 
+#[tactic(auto, using(crate::proofs::Plans::image_short, crate::proofs::Plans::planned_0, crate::proofs::Plans::planned_1, crate::proofs::Plans::planned_others))]
 fn planned(command: u32, image: &[u8]) -> Plan
     requires { accepted command image.now ≡ taken (load_of command image.now) }
     ensures { result ≡ planned command image.now }
@@ -121,6 +117,7 @@ fn planned(command: u32, image: &[u8]) -> Plan
 }
 
 // The plan that goes on so after the four phases that every command has.
+#[tactic(auto, using(crate::proofs::Ones::draws_ones))]
 fn after_version(
     command: Counts,
     size: Counts,
@@ -146,12 +143,14 @@ fn after_version(
 }
 
 // The bits of a value of 32 bits, and those of an image.
+#[tactic(auto, using(crate::proofs::Ones::count_is, crate::proofs::Ones::ones_most))]
 fn value_bits(value: u32) -> Counts
     ensures { result ≡ bits_with 32 (value_ones value) }
 {
-    bits(32, u32::count_ones(value))
+    bits(32, value.count_ones())
 }
 
+#[tactic(auto, using(crate::proofs::Ones::image_most))]
 fn image_bits(image: &[u8]) -> Counts
     requires { length image.now ≤ 32760 }
     ensures { result ≡ bits_with (length image.now * 8) (image_ones image.now) }
@@ -190,7 +189,7 @@ fn unspaced(mut counts: Counts) -> Counts
     requires { 0 < counts.spacers }
     ensures { result ≡ unspaced counts }
 {
-    counts.spacers = counts.spacers - 1;
+    counts.spacers -= 1;
     counts
 }
 
@@ -199,19 +198,14 @@ fn image_ones(image: &[u8]) -> u32
     requires { length image.now ≤ 32760 }
     ensures { result ≡ image_ones image.now }
 {
-    let mut ones = 0;
-    let mut at = 0;
-    while at < image.len() {
-        ones += byte_ones(image[at]);
-        at += 1;
-    }
-    ones
+    image.iter().map(|byte| byte_ones(*byte)).sum()
 }
 
+#[tactic(auto, using(crate::proofs::Ones::count_is))]
 fn byte_ones(byte: u8) -> u32
     ensures { result ≡ byte_ones byte }
 {
-    u8::count_ones(byte)
+    byte.count_ones()
 }
 
 // The sum of a figure's ten counts.

@@ -8,27 +8,26 @@ use native.Mathlib.Omega.{arith}
 use lib.Dec.{ltb}
 use lib.ListN.{length}
 use borrow.Author.Tests.{eqb-false, ltb-false, not-false}
+use Rattle.std.specs.Prelude.{Option, None, Some, Result, Ok, Err}
 use Rattle.terms.specs.Choice.{when}
 use Rattle.entries.specs.Entries.{word_bytes, no_word, is_name, entry_of}
 use Rattle.entries.specs.Named.{Named}
 use Rattle.entries.specs.declared.Bench.{Bench}
 use Rattle.entries.specs.declared.Cause.{Cause}
-use Rattle.entries.specs.declared.Entry.{Entry}
-use Rattle.entries.specs.declared.Entry.TheVariants.{Blank, Wrong, Setting}
 
-passed : (b : Bool) (x y z : Entry) → (x ≡ z → ⊥) → when b x y ≡ z → (b ≡ false) × (y ≡ z)
+passed : (b : Bool) (x y z : Result (Option Bench) Cause) → (x ≡ z → ⊥) → when b x y ≡ z → (b ≡ false) × (y ≡ z)
 unfolding when
 passed true x y z other e = absurd (other e)
 passed false x y z other e = (refl, e)
 
 module _ (bench : Bench) where
-  not_blank : Blank ≡ Setting bench → ⊥
+  not_blank : ◌≡◌ {A = Result (Option Bench) Cause} (Ok None) (Ok (Some bench)) → ⊥
   not_blank e = let z : ◌≡◌ {A = ℕ} 0 1 = cc in omega arith
 
-  not_wrong : (cause : Cause) → Wrong cause ≡ Setting bench → ⊥
+  not_wrong : (cause : Cause) → ◌≡◌ {A = Result (Option Bench) Cause} (Err cause) (Ok (Some bench)) → ⊥
   not_wrong cause e = let z : ◌≡◌ {A = ℕ} 0 1 = cc in omega arith
 
-  module _ (line : List ℕ) (is : entry_of line ≡ Setting bench) where
+  module _ (line : List ℕ) (is : entry_of line ≡ Ok (Some bench)) where
     tests : (no_word line 0 ≡ false) × (ltb 12 (length (word_bytes line 0)) ≡ false) × (not (is_name (word_bytes line 0)) ≡ false)
     unfolding entry_of
     tests =

@@ -1,6 +1,6 @@
--- At a place of a text each definition goes by the byte there: it ends there, or goes on behind it. Past the end nothing is left.
+-- How far the blanks of a text, its first word and its content go: counted as the library counts them, and seen from a place of the text.
 -- Assumes nothing.
-use mathlib.Core.Bool.{true, false}
+use mathlib.Core.Bool.{Bool, true, false, not, cond, ◌&&◌}
 use mathlib.Core.List.{List, [], ◌∷◌}
 use mathlib.Core.Path.{◌≡◌, refl, sym}
 use Prim.Native.Nat.{ℕ, zero, suc, ◌+◌, ◌-◌, ◌≤◌, ◌<◌}
@@ -9,9 +9,41 @@ use native.Mathlib.Numerals.{add-one}
 use native.Mathlib.Omega.{arith}
 use lib.ListN.{length, get_or, take, drop, drop_of_length-le, length-drop}
 use lib.Seq.{drop-cons}
-use Rattle.terms.proofs.Refusals.{both_failed, both_passed}
+use Rattle.std.specs.List.{prefix_len, list_all}
+use Rattle.terms.specs.Choice.{when, both}
 use Rattle.terms.proofs.Tests.{when_true, when_false, when_elim}
 use Rattle.entries.specs.Entries.{ends_content, content_length, content_of, is_blank, blanks, until_blank, skipped, word_end, word_start, word_in, word_bytes, word_place, may_be_named, is_name}
+
+-- The library counts the bytes that a text starts with and that pass a test, or asks whether all do.
+blank_more : (b : Bool) (m n : ℕ) → m ≡ n → cond b (1 + m) 0 ≡ when b (n + 1) 0
+unfolding when
+blank_more true m n e = omega (arith, e)
+blank_more false m n e = refl
+
+pub blanks_counted : (text : List ℕ) → prefix_len is_blank text ≡ blanks text
+unfolding blanks
+blanks_counted [] = refl
+blanks_counted (byte ∷ text) = blank_more (is_blank byte) _ _ (blanks_counted text)
+
+other_more : (b : Bool) (m n : ℕ) → m ≡ n → cond (not b) (1 + m) 0 ≡ when b 0 (n + 1)
+unfolding when
+other_more true m n e = refl
+other_more false m n e = omega (arith, e)
+
+pub others_counted : (text : List ℕ) → prefix_len (λ b. not (is_blank b)) text ≡ until_blank text
+unfolding until_blank
+others_counted [] = refl
+others_counted (byte ∷ text) = other_more (is_blank byte) _ _ (others_counted text)
+
+named_more : (b m n : Bool) → m ≡ n → (b && m) ≡ both b n
+unfolding both
+named_more true m n e = e
+named_more false m n e = refl
+
+pub names_tested : (name : List ℕ) → list_all may_be_named name ≡ is_name name
+unfolding is_name
+names_tested [] = refl
+names_tested (byte ∷ name) = named_more (may_be_named byte) _ _ (names_tested name)
 
 -- Where the content ends, seen from a place.
 unfoldable pub content_end : List ℕ → ℕ → ℕ
@@ -22,22 +54,9 @@ unfolding content_end
 content_first line = zero-add (content_length line)
 
 module _ (text : List ℕ) (at : ℕ) where
-  module _ (past : length text ≤ at) where
-    pub content_past : at ≡ content_end text at
-    unfolding content_end content_length
-    content_past = rw (drop_of_length-le text past) (sym (add-zero at))
-
-    pub skip_past : at ≡ skipped text at
-    unfolding skipped blanks
-    skip_past = rw (drop_of_length-le text past) (sym (add-zero at))
-
-    pub end_past : at ≡ word_end text at
-    unfolding word_end until_blank
-    end_past = rw (drop_of_length-le text past) (sym (add-zero at))
-
-    pub name_past : true ≡ is_name (drop at text)
-    unfolding is_name
-    name_past = rw (drop_of_length-le text past) refl
+  pub content_past : length text ≤ at → at ≡ content_end text at
+  unfolding content_end content_length
+  content_past past = rw (drop_of_length-le text past) (sym (add-zero at))
 
   module _ (within : at < length text) where
     here : drop at text ≡ get_or text at 0 ∷ drop (at + 1) text
@@ -54,30 +73,6 @@ module _ (text : List ℕ) (at : ℕ) where
     content_later e =
         let on : ends_content (get_or text at 0) (length (drop (at + 1) text)) ≡ false = rw (length-drop (at + 1) text) e in
         rw (here, when_false 0 (content_length (drop (at + 1) text) + 1) on) (omega arith)
-
-    pub skip_here : is_blank (get_or text at 0) ≡ false → at ≡ skipped text at
-    unfolding skipped blanks
-    skip_here e = rw (here, when_false (blanks (drop (at + 1) text) + 1) 0 e) (sym (add-zero at))
-
-    pub skip_later : is_blank (get_or text at 0) ≡ true → skipped text (at + 1) ≡ skipped text at
-    unfolding skipped blanks
-    skip_later e = rw (here, when_true (blanks (drop (at + 1) text) + 1) 0 e) (omega arith)
-
-    pub end_here : is_blank (get_or text at 0) ≡ true → at ≡ word_end text at
-    unfolding word_end until_blank
-    end_here e = rw (here, when_true 0 (until_blank (drop (at + 1) text) + 1) e) (sym (add-zero at))
-
-    pub end_later : is_blank (get_or text at 0) ≡ false → word_end text (at + 1) ≡ word_end text at
-    unfolding word_end until_blank
-    end_later e = rw (here, when_false 0 (until_blank (drop (at + 1) text) + 1) e) (omega arith)
-
-    pub name_here : may_be_named (get_or text at 0) ≡ false → false ≡ is_name (drop at text)
-    unfolding is_name
-    name_here e = rw here (both_failed _ _ e)
-
-    pub name_later : may_be_named (get_or text at 0) ≡ true → is_name (drop (at + 1) text) ≡ is_name (drop at text)
-    unfolding is_name
-    name_later e = rw here (both_passed _ _ _ e refl)
 
 -- No place of these lies past the text's end.
 pub content_within : (line : List ℕ) → content_length line ≤ length line

@@ -1,13 +1,11 @@
 -- A line of a settings file: NAME T H P, apart by blanks; what follows a # is a comment.
 -- Assumes nothing.
-use Rattle.std.specs.Prelude.{Bool, true, not, List, [], ◌∷◌, ℕ, zero, suc, ◌+◌, eqb, leb, ltb, length, take, drop}
+use Rattle.std.specs.Prelude.{Bool, true, not, Option, None, Some, Result, Ok, Err, List, [], ◌∷◌, ℕ, zero, suc, ◌+◌, eqb, leb, ltb, length, take, drop}
 use Rattle.terms.specs.Choice.{when, both, either}
 use Rattle.figures.specs.Figures.{figure_of}
-use Rattle.figures.specs.declared.Figure.{Figure}
-use Rattle.figures.specs.declared.Figure.TheVariants.{Not, Number}
+use Rattle.entries.specs.declared.Bench.{Bench}
+use Rattle.entries.specs.declared.Cause.{Cause}
 use Rattle.entries.specs.declared.Cause.TheVariants.{Fewer, More, LongName, OtherName, T, H, P}
-use Rattle.entries.specs.declared.Entry.{Entry}
-use Rattle.entries.specs.declared.Entry.TheVariants.{Blank, Wrong, Setting}
 
 -- A byte ends a line's content: a #, byte 35, or a carriage return, byte 13, that no byte follows.
 unfoldable pub ends_content : ℕ → ℕ → Bool
@@ -79,19 +77,19 @@ is_name [] = true
 is_name (byte ∷ name) = both (may_be_named byte) (is_name name)
 
 -- The figures in their order: the first that is no number is what is wrong.
-unfoldable pub setting_of : Figure → Figure → Figure → Entry
-setting_of Not h p = Wrong T
-setting_of (Number t) Not p = Wrong H
-setting_of (Number t) (Number h) Not = Wrong P
-setting_of (Number t) (Number h) (Number p) = Setting (record { t = t; h = h; p = p })
+unfoldable pub setting_of : Option ℕ → Option ℕ → Option ℕ → Result (Option Bench) Cause
+setting_of None h p = Err T
+setting_of (Some t) None p = Err H
+setting_of (Some t) (Some h) None = Err P
+setting_of (Some t) (Some h) (Some p) = Ok (Some (record { t = t; h = h; p = p }))
 
 -- What a line is, by the first that applies: it has no word, not four words, more than four, or another name than one of at most 12 bytes
 -- that may be named.
-unfoldable pub entry_of : List ℕ → Entry
+unfoldable pub entry_of : List ℕ → Result (Option Bench) Cause
 entry_of line =
-    when (no_word line 0) Blank
-    (when (no_word line 3) (Wrong Fewer)
-    (when (not (no_word line 4)) (Wrong More)
-    (when (ltb 12 (length (word_bytes line 0))) (Wrong LongName)
-    (when (not (is_name (word_bytes line 0))) (Wrong OtherName)
+    when (no_word line 0) (Ok None)
+    (when (no_word line 3) (Err Fewer)
+    (when (not (no_word line 4)) (Err More)
+    (when (ltb 12 (length (word_bytes line 0))) (Err LongName)
+    (when (not (is_name (word_bytes line 0))) (Err OtherName)
     (setting_of (figure_of (word_bytes line 1)) (figure_of (word_bytes line 2)) (figure_of (word_bytes line 3)))))))

@@ -4,9 +4,7 @@
 
 ghost use Rattle.std.specs.Prelude.{◌≡◌};
 ghost use Rattle.figures.specs.Figures.{figure_of};
-ghost use Rattle.entries.specs.Entries.{ends_content, content_length, content_of, is_blank, skipped, word_end, word_start, word_bytes, word_place, no_word, is_between, may_be_named, is_name, setting_of, entry_of};
-
-use figures::Figure;
+ghost use Rattle.entries.specs.Entries.{ends_content, content_length, content_of, is_blank, skipped, word_end, word_start, word_bytes, word_place, no_word, may_be_named, is_name, setting_of, entry_of};
 
 // What is wrong with a line.
 #[derive(Clone, Copy)]
@@ -31,35 +29,28 @@ pub struct Bench {
     pub p: u32,
 }
 
-// What a line is: blank, wrong, or a setting.
-#[derive(Clone, Copy)]
-pub enum Entry {
-    Blank,
-    Wrong(Cause),
-    Setting(Bench),
-}
-
 pub const LONGEST_NAME: usize = 12;
 
-// What a line is, by the first that applies, in the order of `Entry` and `Cause`.
-pub fn read(line: &[u8]) -> Entry
+// The figures of a line, none of a blank one, or what is wrong with it: the first that applies, in the order of `Cause`.
+#[tactic(auto, unfolding(crate::specs::Entries::entry_of, terms::specs::Choice::when))]
+pub fn read(line: &[u8]) -> Result<Option<Bench>, Cause>
     ensures { result ≡ entry_of line.now }
 {
     if is_empty(line, 0) {
-        return Entry::Blank;
+        return Ok(None);
     }
     if is_empty(line, 3) {
-        return Entry::Wrong(Cause::Fewer);
+        return Err(Cause::Fewer);
     }
     if !is_empty(line, 4) {
-        return Entry::Wrong(Cause::More);
+        return Err(Cause::More);
     }
     let name = word(line, 0);
     if LONGEST_NAME < name.len() {
-        return Entry::Wrong(Cause::LongName);
+        return Err(Cause::LongName);
     }
     if !is_name(name) {
-        return Entry::Wrong(Cause::OtherName);
+        return Err(Cause::OtherName);
     }
     setting(line)
 }
@@ -88,27 +79,20 @@ fn content<'a>(line: &'a [u8]) -> &'a [u8]
 fn content_end(line: &[u8]) -> usize
     ensures { result ≡ content_length line.now }
 {
-    let mut at = 0;
-    while at < line.len() {
-        if is_end(line[at], line.len() - (at + 1)) {
+    for (at, byte) in line.iter().enumerate() {
+        if is_end(*byte, line.len() - (at + 1)) {
             return at;
         }
-        at += 1;
     }
-    at
+    line.len()
 }
 
 // Whether a byte ends it, by how many bytes of the line follow.
+#[tactic(auto, unfolding(crate::specs::Entries::ends_content, terms::specs::Choice::either, terms::specs::Choice::both))]
 fn is_end(byte: u8, following: usize) -> bool
     ensures { result ≡ ends_content byte following }
 {
-    if byte == b'#' {
-        return true;
-    }
-    if byte != b'\r' {
-        return false;
-    }
-    following == 0
+    byte == b'#' || byte == b'\r' && following == 0
 }
 
 // Where word n starts; the end where there is none.
@@ -116,11 +100,8 @@ fn word_start(text: &[u8], n: u32) -> usize
     ensures { result ≡ word_start text.now n }
 {
     let mut start = skip(text, 0);
-    let mut i = 0;
-    while i < n {
-        let end = word_end(text, start);
-        start = skip(text, end);
-        i += 1;
+    for _ in 0..n {
+        start = skip(text, word_end(text, start));
     }
     start
 }
@@ -129,113 +110,66 @@ fn word_start(text: &[u8], n: u32) -> usize
 fn skip(text: &[u8], from: usize) -> usize
     ensures { result ≡ skipped text.now from }
 {
-    let mut at = from;
-    while at < text.len() {
-        if !is_blank(text[at]) {
-            return at;
-        }
-        at += 1;
-    }
-    at
+    from + text
+        .iter()
+        .skip(from)
+        .take_while(|byte| is_blank(**byte))
+        .count()
 }
 
 // The first place from one on that is a blank, or the end.
 fn word_end(text: &[u8], from: usize) -> usize
     ensures { result ≡ word_end text.now from }
 {
-    let mut at = from;
-    while at < text.len() {
-        if is_blank(text[at]) {
-            return at;
-        }
-        at += 1;
-    }
-    at
+    from + text
+        .iter()
+        .skip(from)
+        .take_while(|byte| !is_blank(**byte))
+        .count()
 }
 
+#[tactic(auto, unfolding(crate::specs::Entries::is_blank, terms::specs::Choice::either))]
 fn is_blank(byte: u8) -> bool
     ensures { result ≡ is_blank byte }
 {
-    if byte == b' ' {
-        return true;
-    }
-    byte == b'\t'
+    byte == b' ' || byte == b'\t'
 }
 
 // Whether a line has no word n.
+#[tactic(auto, unfolding(crate::specs::Entries::no_word))]
 fn is_empty(line: &[u8], n: u32) -> bool
     ensures { result ≡ no_word line.now n }
 {
-    let word = word(line, n);
-    word.len() == 0
+    word(line, n).is_empty()
 }
 
 // Whether a name has only the characters that it may have.
 fn is_name(name: &[u8]) -> bool
     ensures { result ≡ is_name name.now }
 {
-    let mut at = 0;
-    while at < name.len() {
-        if !may_be_named(name[at]) {
-            return false;
-        }
-        at += 1;
-    }
-    true
+    name.iter().all(|byte| may_be_named(*byte))
 }
 
+#[tactic(auto, unfolding(crate::specs::Entries::may_be_named, crate::specs::Entries::is_between, terms::specs::Choice::either, terms::specs::Choice::both))]
 fn may_be_named(byte: u8) -> bool
     ensures { result ≡ may_be_named byte }
 {
-    if is_between(byte, b'A', b'Z') {
-        return true;
-    }
-    if is_between(byte, b'a', b'z') {
-        return true;
-    }
-    if is_between(byte, b'0', b'9') {
-        return true;
-    }
-    if byte == b'.' {
-        return true;
-    }
-    if byte == b'_' {
-        return true;
-    }
-    byte == b'-'
-}
-
-fn is_between(byte: u8, low: u8, high: u8) -> bool
-    ensures { result ≡ is_between low high byte }
-{
-    if byte < low {
-        return false;
-    }
-    byte <= high
+    matches!(byte, b'A'..=b'Z' | b'a'..=b'z' | b'0'..=b'9' | b'.' | b'_' | b'-')
 }
 
 // The setting of a line that has its words, or the first of them that is no number.
-fn setting(line: &[u8]) -> Entry
+#[tactic(auto, unfolding(crate::specs::Entries::setting_of))]
+fn setting(line: &[u8]) -> Result<Option<Bench>, Cause>
     ensures { result ≡ setting_of (figure_of (word_bytes line.now 1)) (figure_of (word_bytes line.now 2)) (figure_of (word_bytes line.now 3)) }
 {
-    let t = figure(line, 1);
-    let Figure::Number(t) = t else {
-        return Entry::Wrong(Cause::T);
-    };
-    let h = figure(line, 2);
-    let Figure::Number(h) = h else {
-        return Entry::Wrong(Cause::H);
-    };
-    let p = figure(line, 3);
-    let Figure::Number(p) = p else {
-        return Entry::Wrong(Cause::P);
-    };
-    Entry::Setting(Bench { t, h, p })
+    let t = figure(line, 1).ok_or(Cause::T)?;
+    let h = figure(line, 2).ok_or(Cause::H)?;
+    let p = figure(line, 3).ok_or(Cause::P)?;
+    Ok(Some(Bench { t, h, p }))
 }
 
-fn figure(line: &[u8], n: u32) -> Figure
+fn figure(line: &[u8], n: u32) -> Option<u32>
     ensures { result ≡ figure_of (word_bytes line.now n) }
 {
-    let word = word(line, n);
-    figures::read(word)
+    figures::read(word(line, n))
 }

@@ -2,31 +2,33 @@
 -- Assumes nothing.
 use mathlib.Core.Bool.{Bool, true, false}
 use mathlib.Core.List.{List, [], ◌∷◌}
+use Rattle.std.specs.Char.{is_ascii_digit}
+use Rattle.std.specs.Prelude.{Option, None, Some, Result, Ok, Err}
+use Rattle.std.specs.Result.{OkIff, result_ok}
 use mathlib.Core.Path.{◌≡◌, refl}
 use Prim.Native.Nat.{ℕ, suc, ◌+◌, ◌≤◌, ◌<◌}
 use native.Mathlib.Numerals.{add-one}
 use native.Mathlib.Omega.{arith}
-use lib.Dec.{ltb}
+use lib.Dec.{ltb, leb}
 use lib.ListN.{length, get_or, drop}
 use lib.Seq.{drop-cons, drop-length}
-use borrow.Author.Tests.{ltb-false, le-ltb, lt-ltb, lt-leb, le-leb}
+use borrow.Author.Tests.{ltb-false, le-ltb, lt-ltb}
 use Rattle.terms.specs.Choice.{when, both}
 use Rattle.figures.specs.Figures.{is_digit, all_digits, grown, value_from, number_from, with_digit}
-use Rattle.figures.specs.declared.Figure.{Figure}
-use Rattle.figures.specs.declared.Figure.TheVariants.{Not, Number}
 
--- A byte below the digits, above them, and between.
-pub below_digits : (byte : ℕ) → byte < 48 → is_digit byte ≡ false
+-- The library's test of a digit.
+pub digit_is : (byte : ℕ) → is_ascii_digit byte ≡ is_digit byte
 unfolding is_digit both
-below_digits byte h = rw (lt-leb 48 byte h) refl
+digit_is byte = decide (leb 48 byte) refl where
+  decide : (b : Bool) → leb 48 byte ≡ b → is_ascii_digit byte ≡ is_digit byte
+  decide true e = rw e refl
+  decide false e = rw e refl
 
-pub above_digits : (byte : ℕ) → 48 ≤ byte → 57 < byte → is_digit byte ≡ false
-unfolding is_digit both
-above_digits byte l h = rw (le-leb 48 byte l, lt-leb byte 57 h) refl
-
-pub a_digit : (byte : ℕ) → 48 ≤ byte → byte ≤ 57 → is_digit byte ≡ true
-unfolding is_digit both
-a_digit byte l h = rw (le-leb 48 byte l, le-leb byte 57 h) refl
+-- A number where it fits.
+pub fits_or_none : {E : Type 0} (n : ℕ) (r : Result ℕ E) → OkIff r (n < 4294967296) n → result_ok r ≡ when (ltb n 4294967296) (Some n) None
+unfolding when
+fits_or_none n (Ok m) p = rw (lt-ltb n 4294967296 p.0, p.1) refl
+fits_or_none n (Err e) p = let large : 4294967296 ≤ n = omega (arith, p) in rw (le-ltb n 4294967296 large) refl
 
 -- More digits make no value smaller.
 value_grows : (value : ℕ) (text : List ℕ) → value ≤ value_from value text
@@ -41,9 +43,9 @@ neither true = refl
 neither false = refl
 
 -- What the rest of a text makes of the number before it.
-abbrev pub onward : Figure → List ℕ → Figure
-onward Not text = Not
-onward (Number value) text = number_from value text
+abbrev pub onward : Option ℕ → List ℕ → Option ℕ
+onward None text = None
+onward (Some value) text = number_from value text
 
 module _ (value byte : ℕ) (text : List ℕ) where
   by_tests : (d s : Bool) → is_digit byte ≡ d → ltb (grown value byte) 4294967296 ≡ s
@@ -67,6 +69,6 @@ pub at_digit : (value at : ℕ) (text : List ℕ) → at < length text
 at_digit value at text h = rw (add-one at, drop-cons text at 0 h) (one_digit value (get_or text at 0) (drop (suc at) text))
 
 -- No digit is left.
-pub at_end : (value : ℕ) (text : List ℕ) → value < 4294967296 → number_from value (drop (length text) text) ≡ Number value
+pub at_end : (value : ℕ) (text : List ℕ) → value < 4294967296 → number_from value (drop (length text) text) ≡ Some value
 unfolding number_from all_digits value_from when both
 at_end value text fits = rw (drop-length text, lt-ltb value 4294967296 fits) refl

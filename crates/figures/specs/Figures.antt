@@ -1,9 +1,7 @@
 -- A bench figure as a caller writes it, in decimal digits.
 -- Assumes nothing.
-use Rattle.std.specs.Prelude.{Bool, true, List, [], ◌∷◌, ℕ, ◌+◌, ◌-◌, ◌*◌, eqb, leb, ltb, length}
+use Rattle.std.specs.Prelude.{Bool, true, Option, None, Some, List, [], ◌∷◌, ℕ, ◌+◌, ◌-◌, ◌*◌, eqb, leb, ltb, length}
 use Rattle.terms.specs.Choice.{when, both}
-use Rattle.figures.specs.declared.Figure.{Figure}
-use Rattle.figures.specs.declared.Figure.TheVariants.{Not, Number}
 
 -- The bytes 48 to 57 are the digits 0 to 9.
 unfoldable pub is_digit : ℕ → Bool
@@ -22,13 +20,13 @@ value_from value [] = value
 value_from value (byte ∷ text) = value_from (grown value byte) text
 
 -- Digits alone, and a value of 32 bits.
-unfoldable pub number_from : ℕ → List ℕ → Figure
-number_from value text = when (both (all_digits text) (ltb (value_from value text) 4294967296)) (Number (value_from value text)) Not
+unfoldable pub number_from : ℕ → List ℕ → Option ℕ
+number_from value text = when (both (all_digits text) (ltb (value_from value text) 4294967296)) (Some (value_from value text)) None
 
 -- A text of no digits is no number.
-unfoldable pub figure_of : List ℕ → Figure
-figure_of text = when (eqb (length text) 0) Not (number_from 0 text)
+unfoldable pub figure_of : List ℕ → Option ℕ
+figure_of text = when (eqb (length text) 0) None (number_from 0 text)
 
 -- A number with one digit more: as the code goes on (`at_digit` in proofs/Numbers.antt).
-unfoldable pub with_digit : ℕ → ℕ → Figure
-with_digit value byte = when (is_digit byte) (when (ltb (grown value byte) 4294967296) (Number (grown value byte)) Not) Not
+unfoldable pub with_digit : ℕ → ℕ → Option ℕ
+with_digit value byte = when (is_digit byte) (when (ltb (grown value byte) 4294967296) (Some (grown value byte)) None) None

@@ -4,46 +4,27 @@
 ghost use Rattle.std.specs.Prelude.{◌≡◌};
 ghost use Rattle.figures.specs.Figures.{figure_of, with_digit};
 
-// What a text is: no number, or its value.
-#[derive(Clone, Copy)]
-pub enum Figure {
-    Not,
-    Number(u32),
-}
-
 // The number that a text spells: digits alone, at least one, with any zeros before it. One that does not fit 32 bits is none.
-pub fn read(text: &[u8]) -> Figure
+pub fn read(text: &[u8]) -> Option<u32>
     ensures { result ≡ figure_of text.now }
 {
-    if text.len() == 0 {
-        return Figure::Not;
+    if text.is_empty() {
+        return None;
     }
     let mut value = 0;
-    let mut at = 0;
-    while at < text.len() {
-        let more = with_digit(value, text[at]);
-        let Figure::Number(next) = more else {
-            return Figure::Not;
-        };
-        value = next;
-        at += 1;
+    for byte in text {
+        value = with_digit(value, *byte)?;
     }
-    Figure::Number(value)
+    Some(value)
 }
 
 // A number with one digit more.
-fn with_digit(value: u32, byte: u8) -> Figure
+fn with_digit(value: u32, byte: u8) -> Option<u32>
     ensures { result ≡ with_digit value byte }
 {
-    if byte < b'0' {
-        return Figure::Not;
+    if !byte.is_ascii_digit() {
+        return None;
     }
-    if b'9' < byte {
-        return Figure::Not;
-    }
-    let next = value as u64 * 10 + (byte - b'0') as u64;
-    if next > u32::MAX as u64 {
-        return Figure::Not;
-    }
-    Figure::Number(next as u32)
+    let next = u64::from(value) * 10 + u64::from(byte - b'0');
+    u32::try_from(next).ok()
 }

@@ -72,15 +72,15 @@ plan_within p q =
       verification = e.1.1.1.1.1.1.1.1.1.0;
     }
 
-module _ (s : Settings) (c : Counts) (within : (settings_outside s ≡ false) × Within c) where
+module _ (s : Settings) (c : Counts) (paced : settings_outside s ≡ false) (within : Within c) where
   small : Small c
-  small = (counts_within c).0 within.1
+  small = (counts_within c).0 within
 
   t_most : s.t ≤ 26000
-  t_most = ((settings_within s).0 within.0).t_within.1
+  t_most = ((settings_within s).0 paced).t_within.1
 
   h_most : s.h ≤ 600000
-  h_most = omega (arith, ((settings_within s).0 within.0).paced)
+  h_most = omega (arith, ((settings_within s).0 paced).paced)
 
   pub lows_most : (c.ones + 2 * c.zeros) * s.t ≤ 20620236000
   lows_most =

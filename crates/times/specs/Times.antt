@@ -2,14 +2,12 @@
 -- Assumes nothing.
 use Rattle.std.specs.Prelude.{Bool, false, List, [], ◌∷◌, ℕ, ◌+◌, ◌*◌, ◌/◌, max, ltb}
 use Rattle.terms.specs.Choice.{either}
-use Rattle.terms.specs.Refusals.{Row, Answer, refused, taken, ◌given-when◌, first}
+use Rattle.terms.specs.Refusals.{Row, Answer, ◌given-when◌, first}
 use Rattle.settings.specs.Settings.{settings_outside}
 use Rattle.settings.specs.declared.Settings.{Settings}
 use Rattle.counts.specs.Counts.{phases_of, sum_of}
 use Rattle.counts.specs.declared.Counts.{Counts}
 use Rattle.counts.specs.declared.Plan.{Plan}
-use Rattle.times.specs.declared.Timed.{Timed}
-use Rattle.times.specs.declared.Timed.TheVariants.{Refused, Taken}
 use Rattle.times.specs.declared.Times.{Times}
 
 -- How long a phase lasts, in ns, of which every length is a whole number: a 1 is a low of t, a 0 one of 2t; a spacer is h, and after a
@@ -60,8 +58,3 @@ timed_rows p s = 13 given-when settings_outside s ∷ 13 given-when plan_outside
 -- The times, or 13.
 unfoldable pub timed : Plan → Settings → ℕ → Answer Times
 timed p s n = first (13 given-when settings_outside s ∷ 13 given-when plan_outside p ∷ []) (times_of p s n)
-
--- What an answer tells: its number where it is a refusal, otherwise the times.
-abbrev pub told_timed : Timed → Answer Times
-told_timed (Refused n) = refused n
-told_timed (Taken x) = taken x

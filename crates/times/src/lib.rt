@@ -2,14 +2,16 @@
 // of nanoseconds. And what the old bench said, which cut each of them to whole microseconds before it added.
 #![tactic(auto)]
 
-ghost use Rattle.std.specs.Prelude.{false, ◌≡◌, ◌+◌, ◌*◌, ◌≤◌, max};
+ghost use Rattle.std.specs.Prelude.{false, ◌≡◌, ◌+◌, ◌*◌, ◌≤◌};
 ghost use Rattle.terms.specs.Choice.{either};
+ghost use Rattle.terms.specs.Refusals.{told};
 ghost use Rattle.settings.specs.Settings.{settings_outside};
 ghost use Rattle.counts.specs.Counts.{sum_of};
-ghost use Rattle.times.specs.Times.{counts_outside, lasting, old_lasting, plan_outside, timed, times_of, told_timed};
+ghost use Rattle.times.specs.Times.{counts_outside, lasting, old_lasting, plan_outside, timed, times_of};
 
 use counts::{Counts, Plan};
 use settings::Settings;
+use terms::Refusal;
 
 // The exact times of a plan: each phase of one tracker, one tracker, and all of them, in ns; and the old bench's figures of one tracker and
 // of all, in us.
@@ -31,25 +33,16 @@ pub struct Times {
     pub old_all: u64,
 }
 
-// What `Times::of` answers: a refusal by its number, or the times.
-#[derive(Clone, Copy)]
-pub enum Timed {
-    Refused(u8),
-    Taken(Times),
-}
-
 impl Times {
     // The times of a plan for so many trackers; 13 for settings or counts that no start hands out.
-    pub fn of(plan: Plan, settings: Settings, trackers: u16) -> Timed
-        ensures { told_timed result ≡ timed plan settings trackers }
+    #[tactic(auto, unfolding(crate::specs::Times::timed, terms::specs::Choice::when))]
+    pub fn of(plan: Plan, settings: Settings, trackers: u16) -> Result<Times, Refusal>
+        ensures { told result ≡ timed plan settings trackers }
     {
-        if settings.is_outside() {
-            return Timed::Refused(13);
+        if settings.is_outside() || is_outside(plan) {
+            return Err(Refusal::Record);
         }
-        if is_outside(plan) {
-            return Timed::Refused(13);
-        }
-        Timed::Taken(times_of(plan, settings, trackers))
+        Ok(Bench { settings }.times_of(plan, trackers))
     }
 }
 
@@ -73,19 +66,11 @@ fn is_outside(plan: Plan) -> bool
     )
 }
 
+#[tactic(auto, unfolding(crate::specs::Times::counts_outside, terms::specs::Choice::either))]
 fn exceeds(counts: Counts) -> bool
     ensures { result ≡ counts_outside counts }
 {
-    if MOST < counts.ones {
-        return true;
-    }
-    if MOST < counts.zeros {
-        return true;
-    }
-    if MOST < counts.spacers {
-        return true;
-    }
-    MOST < counts.silent
+    MOST < counts.ones || MOST < counts.zeros || MOST < counts.spacers || MOST < counts.silent
 }
 
 fn any(
@@ -135,99 +120,105 @@ fn any(
     false
 }
 
-fn times_of(plan: Plan, settings: Settings, trackers: u16) -> Times
-    requires { (settings_outside settings ≡ false) × (plan_outside plan ≡ false) }
-    ensures { result ≡ times_of plan settings trackers }
-{
-    let calibration = lasting(plan.calibration, settings);
-    let handshake = lasting(plan.handshake, settings);
-    let connection = lasting(plan.connection, settings);
-    let version = lasting(plan.version, settings);
-    let command = lasting(plan.command, settings);
-    let size = lasting(plan.size, settings);
-    let image = lasting(plan.image, settings);
-    let ram = lasting(plan.ram, settings);
-    let programming = lasting(plan.programming, settings);
-    let verification = lasting(plan.verification, settings);
-    let one = sum(
-        calibration,
-        handshake,
-        connection,
-        version,
-        command,
-        size,
-        image,
-        ram,
-        programming,
-        verification,
-    );
-    let old_one = old_sum(plan, settings);
-    Times {
-        calibration,
-        handshake,
-        connection,
-        version,
-        command,
-        size,
-        image,
-        ram,
-        programming,
-        verification,
-        one,
-        all: for_all(one, trackers),
-        old_one,
-        old_all: for_all(old_one, trackers),
+// Settings that are within their bounds.
+#[derive(Clone, Copy)]
+struct Bench {
+    settings: Settings,
+    ghost within: { settings_outside settings ≡ false },
+}
+
+impl Bench {
+    fn times_of(self, plan: Plan, trackers: u16) -> Times
+        requires { plan_outside plan ≡ false }
+        ensures { result ≡ times_of plan self.settings trackers }
+    {
+        let calibration = self.lasting(plan.calibration);
+        let handshake = self.lasting(plan.handshake);
+        let connection = self.lasting(plan.connection);
+        let version = self.lasting(plan.version);
+        let command = self.lasting(plan.command);
+        let size = self.lasting(plan.size);
+        let image = self.lasting(plan.image);
+        let ram = self.lasting(plan.ram);
+        let programming = self.lasting(plan.programming);
+        let verification = self.lasting(plan.verification);
+        let one = sum(
+            calibration,
+            handshake,
+            connection,
+            version,
+            command,
+            size,
+            image,
+            ram,
+            programming,
+            verification,
+        );
+        let old_one = self.old_sum(plan);
+        Times {
+            calibration,
+            handshake,
+            connection,
+            version,
+            command,
+            size,
+            image,
+            ram,
+            programming,
+            verification,
+            one,
+            all: for_all(one, trackers),
+            old_one,
+            old_all: for_all(old_one, trackers),
+        }
+    }
+
+    // How long a phase lasts, in ns. It is less than 3,000 s, so that no sum passes 64 bits.
+    #[tactic(auto, using(crate::proofs::Bounds::lows_most, crate::proofs::Bounds::spacers_most, crate::proofs::Bounds::silent_most, crate::proofs::Bounds::all_most), unfolding(crate::specs::Times::lasting))]
+    fn lasting(self, counts: Counts) -> u64
+        requires { counts_outside counts ≡ false }
+        ensures { (result ≡ lasting self.settings counts) × (result ≤ 3000000000000) }
+    {
+        let Settings { t, h, .. } = self.settings;
+        let lows = (counts.ones as u64 + 2 * counts.zeros as u64) * t as u64;
+        let spacers = counts.spacers as u64 * h as u64;
+        lows + spacers + counts.silent as u64 * h.max(LONGER) as u64
+    }
+
+    // The same of all phases, as the old bench had it, in us.
+    fn old_sum(self, plan: Plan) -> u64
+        requires { plan_outside plan ≡ false }
+        ensures { (result ≡ sum_of (old_lasting self.settings) plan) × (result ≤ 30000000000000) }
+    {
+        sum(
+            self.old_lasting(plan.calibration),
+            self.old_lasting(plan.handshake),
+            self.old_lasting(plan.connection),
+            self.old_lasting(plan.version),
+            self.old_lasting(plan.command),
+            self.old_lasting(plan.size),
+            self.old_lasting(plan.image),
+            self.old_lasting(plan.ram),
+            self.old_lasting(plan.programming),
+            self.old_lasting(plan.verification),
+        )
+    }
+
+    #[tactic(auto, using(crate::proofs::Bounds::old_ones_most, crate::proofs::Bounds::old_zeros_most, crate::proofs::Bounds::old_spacers_most, crate::proofs::Bounds::old_silent_most, crate::proofs::Bounds::old_most), unfolding(crate::specs::Times::old_lasting))]
+    fn old_lasting(self, counts: Counts) -> u64
+        requires { counts_outside counts ≡ false }
+        ensures { (result ≡ old_lasting self.settings counts) × (result ≤ 3000000000000) }
+    {
+        let Settings { t, h, .. } = self.settings;
+        let ones = counts.ones as u64 * (t as u64 / 1_000);
+        let zeros = counts.zeros as u64 * (2 * t as u64 / 1_000);
+        let spacers = counts.spacers as u64 * (h as u64 / 1_000);
+        ones + zeros + spacers + counts.silent as u64 * (h.max(LONGER) as u64 / 1_000)
     }
 }
 
-// How long a phase lasts, in ns. It is less than 3,000 s, so that no sum passes 64 bits.
-fn lasting(counts: Counts, settings: Settings) -> u64
-    requires { (settings_outside settings ≡ false) × (counts_outside counts ≡ false) }
-    ensures { (result ≡ lasting settings counts) × (result ≤ 3000000000000) }
-{
-    let lows = (counts.ones as u64 + 2 * counts.zeros as u64) * settings.t as u64;
-    let spacers = counts.spacers as u64 * settings.h as u64;
-    lows + spacers + counts.silent as u64 * longer(settings.h) as u64
-}
-
-// The same of all phases, as the old bench had it, in us.
-fn old_sum(plan: Plan, settings: Settings) -> u64
-    requires { (settings_outside settings ≡ false) × (plan_outside plan ≡ false) }
-    ensures { (result ≡ sum_of (old_lasting settings) plan) × (result ≤ 30000000000000) }
-{
-    sum(
-        old_lasting(plan.calibration, settings),
-        old_lasting(plan.handshake, settings),
-        old_lasting(plan.connection, settings),
-        old_lasting(plan.version, settings),
-        old_lasting(plan.command, settings),
-        old_lasting(plan.size, settings),
-        old_lasting(plan.image, settings),
-        old_lasting(plan.ram, settings),
-        old_lasting(plan.programming, settings),
-        old_lasting(plan.verification, settings),
-    )
-}
-
-fn old_lasting(counts: Counts, settings: Settings) -> u64
-    requires { (settings_outside settings ≡ false) × (counts_outside counts ≡ false) }
-    ensures { (result ≡ old_lasting settings counts) × (result ≤ 3000000000000) }
-{
-    let ones = counts.ones as u64 * (settings.t as u64 / 1_000);
-    let zeros = counts.zeros as u64 * (2 * settings.t as u64 / 1_000);
-    let spacers = counts.spacers as u64 * (settings.h as u64 / 1_000);
-    ones + zeros + spacers + counts.silent as u64 * (longer(settings.h) as u64 / 1_000)
-}
-
-// The spacer after a silent pair.
-fn longer(h: u32) -> u32
-    ensures { result ≡ max h 10000000 }
-{
-    if h < 10_000_000 {
-        return 10_000_000;
-    }
-    h
-}
+// The spacer after a silent pair is at least so long, in ns.
+const LONGER: u32 = 10_000_000;
 
 fn sum(a: u64, b: u64, c: u64, d: u64, e: u64, f: u64, g: u64, h: u64, i: u64, j: u64) -> u64
     requires { (a ≤ 3000000000000) × (b ≤ 3000000000000) × (c ≤ 3000000000000) × (d ≤ 3000000000000) × (e ≤ 3000000000000)
@@ -241,5 +232,5 @@ fn for_all(one: u64, trackers: u16) -> u64
     requires { one ≤ 30000000000000 }
     ensures { result ≡ one * trackers }
 {
-    one * trackers as u64
+    one * u64::from(trackers)
 }

@@ -1,24 +1,28 @@
--- `line_end`: the line ends, seen from each place that is reached, where it ends from the first.
+-- `cases::line_end` counts as the library does.
 -- Assumes nothing.
-use mathlib.Core.Path.{refl, ◌∙◌}
-use native.Mathlib.Omega.{arith}
-use Rattle.cases.proofs.Places.{end_past, end_here, end_later}
+use mathlib.Core.Bool.{Bool, not}
+use Prim.Native.Nat.{ℕ}
+use lib.Dec.{eqb}
+use lib.ListN.{drop}
+use Rattle.std.proofs.Common.{rules, tests}
+use Rattle.std.proofs.lemmas.Iterator.{YieldsList-from_slice}
+use Rattle.std.proofs.lemmas.Iterator.Adapters.{YieldsList-from_skip}
+use Rattle.std.proofs.lemmas.Iterator.Consumers.{YieldsList-at, count_from_yields_List}
+use Rattle.std.proofs.lemmas.Iterator.Search.{YieldsList-from_take_while}
+use Rattle.std.proofs.lemmas.List.Folds.{length-prefix_len}
+use Rattle.cases.specs.Cases.{line_end}
+use Rattle.cases.proofs.Places.{others_counted}
 use Rattle.cases.proofs.line_end.Goals as goal
 
-pub loop-at-init : goal.loop-at-init
-loop-at-init c = refl
-
-pub returns-then-text-at-eq10 : goal.returns-then-text-at-eq10
-returns-then-text-at-eq10 c = end_here _ _ c.loop-at-test.true c.if-text-at-eq10.true ∙ c.loop-at.invariant
-
-pub overflow_add-at : goal.overflow_add-at
-overflow_add-at c = omega arith
-
-pub loop-at-smaller : goal.loop-at-smaller
-loop-at-smaller c = omega arith
-
-pub loop-at-preserved : goal.loop-at-preserved
-loop-at-preserved c = end_later _ _ c.loop-at-test.true c.if-text-at-eq10.false ∙ c.loop-at.invariant
-
 pub returns : goal.returns
-returns c = end_past _ _ c.loop-at-test.false ∙ c.loop-at.invariant
+unfolding line_end
+returns c =
+    let text = c.args.text.now in
+    let test : ℕ → Bool = λ b. not (eqb b 10) in
+    let counted =
+    count_from_yields_List c.take_while.result _ c.count.ensures.ran
+    (YieldsList-from_take_while _ test
+    (YieldsList-at c.take_while.ensures.source (YieldsList-from_skip c.args.from (YieldsList-at c.skip.ensures.source (YieldsList-from_slice text cc)) c.skip.ensures.count))
+    c.take_while.ensures.closure c.take_while.ensures.done (λ x b q k. search (rules, tests)))
+    in
+    rw (counted, length-prefix_len test (drop c.args.from text), others_counted (drop c.args.from text))

@@ -1,43 +1,18 @@
 -- `cases::value`: the number so far, with the digits from the place that is reached, is the number of all digits.
 -- Assumes nothing.
-use mathlib.Core.Bool.{Bool, true}
-use mathlib.Core.List.{List}
-use mathlib.Core.Path.{◌≡◌, refl, ◌∙◌}
-use Prim.Native.Nat.{ℕ, ◌<◌}
-use native.Mathlib.Omega.{arith}
-use lib.ListN.{length, drop}
-use Rattle.terms.proofs.Refusals.{answered}
-use Rattle.cases.specs.Cases.{starts_with_digit}
-use Rattle.cases.proofs.Places.{value_over, value_later, digit_within, digit_from_48}
+use mathlib.Core.Path.{sym, ◌∙◌}
+use Rattle.cases.proofs.Places.{digit_is, value_past, value_here, value_later}
 use Rattle.cases.proofs.value.Goals as goal
 
--- In a turn a digit stands at the place.
-module _ (line : List ℕ) (at : ℕ) (test : Bool) (told : test ≡ starts_with_digit (drop at line)) (passed : test ≡ true) where
-  digit : starts_with_digit (drop at line) ≡ true
-  digit = answered _ _ _ told passed
+pub returns-then-not-is_ascii_digit : goal.returns-then-not-is_ascii_digit
+returns-then-not-is_ascii_digit c =
+    value_here _ _ c.loop-byte-test.true _ (sym (digit_is _) ∙ sym c.is_ascii_digit.ensures.value ∙ c.if-not-is_ascii_digit.true)
+    ∙ c.loop-byte.invariant
 
-  within : at < length line
-  within = digit_within line at digit
-
-pub loop-value-init : goal.loop-value-init
-loop-value-init c = refl
-
-pub bounds-line-at : goal.bounds-line-at
-bounds-line-at c = within c.args.line.now c.loop-value.at _ c.digit_at.ensures c.loop-value-test.true
-
-pub with_digit-value-requires : goal.with_digit-value-requires
-with_digit-value-requires c = digit_from_48 c.args.line.now c.loop-value.at (digit c.args.line.now c.loop-value.at _ c.digit_at.ensures c.loop-value-test.true)
-
-pub overflow_add-at : goal.overflow_add-at
-overflow_add-at c = omega (arith, within c.args.line.now c.loop-value.at _ c.digit_at.ensures c.loop-value-test.true)
-
-pub loop-value-smaller : goal.loop-value-smaller
-loop-value-smaller c = omega (arith, within c.args.line.now c.loop-value.at _ c.digit_at.ensures c.loop-value-test.true)
-
-pub loop-value-preserved : goal.loop-value-preserved
-loop-value-preserved c =
-    rw c.with_digit-value.ensures (value_later c.args.line.now c.loop-value.at (digit c.args.line.now c.loop-value.at _ c.digit_at.ensures c.loop-value-test.true) _ ∙ c.loop-value.invariant)
+pub loop-byte-preserved : goal.loop-byte-preserved
+loop-byte-preserved c =
+    rw c.with_digit-value.ensures (value_later _ _ c.loop-byte-test.true _ (sym (digit_is _) ∙ sym c.is_ascii_digit.ensures.value ∙ c.if-not-is_ascii_digit.false)
+    ∙ c.loop-byte.invariant)
 
 pub returns : goal.returns
-returns c =
-    value_over _ _ (answered _ _ _ c.digit_at.ensures c.loop-value-test.false) ∙ c.loop-value.invariant
+returns c = value_past _ _ c.loop-byte-test.false _ ∙ c.loop-byte.invariant

@@ -1,31 +1,24 @@
 -- `image_ones` adds the ones of byte after byte.
 -- Assumes nothing.
+use mathlib.Core.Path.{sym, ◌∙◌}
 use native.Mathlib.Omega.{arith}
-use lib.ListN.{get_or}
-use Rattle.bits.specs.Bits.{value_bit}
-use Rattle.counts.proofs.Ones.{ones_most, before_none, before_most, before_one, before_all}
+use Rattle.std.proofs.Common.{rules, tests}
+use Rattle.std.proofs.lemmas.Iterator.{YieldsList-from_slice, YieldsList-from_map}
+use Rattle.std.proofs.lemmas.Iterator.Consumers.{YieldsList-at, sum_by_from_yields_List, fits_by_from_yields_list}
+use Rattle.counts.specs.Counts.{byte_ones}
+use Rattle.counts.proofs.Ones.{image_sum, image_most}
 use Rattle.counts.proofs.image_ones.Goals as goal
 
-pub loop-at-init : goal.loop-at-init
-loop-at-init c = before_none c.args.image.now
-
-pub overflow_add-ones : goal.overflow_add-ones
-overflow_add-ones c =
+pub sum-requires-clause-fits : goal.sum-requires-clause-fits
+sum-requires-clause-fits c =
     let image = c.args.image.now in
-    let at = c.loop-at.at in
-    omega (arith, before_most image at, ones_most (value_bit (get_or image at 0)) 0 8, c.requires)
-
-pub overflow_add-at : goal.overflow_add-at
-overflow_add-at c = omega arith
-
-pub loop-at-smaller : goal.loop-at-smaller
-loop-at-smaller c = omega arith
-
-pub loop-at-preserved : goal.loop-at-preserved
-loop-at-preserved c =
-    let image = c.args.image.now in
-    before_one image c.loop-at.at c.loop-at.ones _ c.loop-at.invariant c.loop-at-test.true c.byte_ones-ones.ensures
+    fits_by_from_yields_list byte_ones image c.map.result _
+    (YieldsList-from_map _ byte_ones (YieldsList-at c.map.ensures.source (YieldsList-from_slice image cc)) c.map.ensures.closure (λ x r q k. search (rules, tests)))
+    (omega (arith, image_sum image, image_most image, c.requires))
 
 pub returns : goal.returns
 returns c =
-    before_all c.args.image.now c.loop-at.at c.loop-at.ones c.loop-at.invariant c.loop-at-test.false
+    let image = c.args.image.now in
+    sum_by_from_yields_List byte_ones image c.map.result _ c.sum.ensures.ran
+    (YieldsList-from_map _ byte_ones (YieldsList-at c.map.ensures.source (YieldsList-from_slice image cc)) c.map.ensures.closure (λ x r q k. search (rules, tests)))
+    ∙ sym (image_sum image)

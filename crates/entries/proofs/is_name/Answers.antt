@@ -1,29 +1,15 @@
--- `entries::is_name`: what is left at each place that is reached is a name where all of it is.
+-- `entries::is_name` asks for each byte.
 -- Assumes nothing.
-use mathlib.Core.Path.{refl, ◌∙◌}
-use native.Mathlib.Omega.{arith}
-use Rattle.terms.proofs.Refusals.{answered}
-use Rattle.entries.proofs.Texts.{name_past, name_here, name_later}
+use mathlib.Core.Path.{◌∙◌}
+use Rattle.std.proofs.Common.{rules, tests}
+use Rattle.std.proofs.lemmas.Iterator.{YieldsList-from_slice}
+use Rattle.std.proofs.lemmas.Iterator.Search.{all_from_yields_List}
+use Rattle.entries.specs.Entries.{may_be_named}
+use Rattle.entries.proofs.Texts.{names_tested}
 use Rattle.entries.proofs.is_name.Goals as goal
 
-pub loop-at-init : goal.loop-at-init
-loop-at-init c = refl
-
-pub returns-then-not-may_be_named : goal.returns-then-not-may_be_named
-returns-then-not-may_be_named c =
-    name_here _ _ c.loop-at-test.true (answered _ _ _ c.may_be_named.ensures (c.if-not-may_be_named.true))
-    ∙ c.loop-at.invariant
-
-pub overflow_add-at : goal.overflow_add-at
-overflow_add-at c = omega arith
-
-pub loop-at-smaller : goal.loop-at-smaller
-loop-at-smaller c = omega arith
-
-pub loop-at-preserved : goal.loop-at-preserved
-loop-at-preserved c =
-    name_later _ _ c.loop-at-test.true (answered _ _ _ c.may_be_named.ensures (c.if-not-may_be_named.false))
-    ∙ c.loop-at.invariant
-
 pub returns : goal.returns
-returns c = name_past _ _ c.loop-at-test.false ∙ c.loop-at.invariant
+returns c =
+    let name = c.args.name.now in
+    all_from_yields_List may_be_named _ _ _ c.all.ensures.ran (YieldsList-from_slice name cc) (λ x b q k. search (rules, tests))
+    ∙ names_tested name

@@ -1,29 +1,24 @@
--- `entries::skip`: the blanks end, seen from each place that is reached, where they end from the first.
+-- `entries::skip` counts as the library does.
 -- Assumes nothing.
-use mathlib.Core.Path.{refl, ◌∙◌}
-use native.Mathlib.Omega.{arith}
-use Rattle.terms.proofs.Refusals.{answered}
-use Rattle.entries.proofs.Texts.{skip_past, skip_here, skip_later}
+use Rattle.std.proofs.Common.{rules, tests}
+use Rattle.std.proofs.lemmas.Iterator.{YieldsList-from_slice}
+use Rattle.std.proofs.lemmas.Iterator.Adapters.{YieldsList-from_skip}
+use Rattle.std.proofs.lemmas.Iterator.Consumers.{YieldsList-at, count_from_yields_List}
+use Rattle.std.proofs.lemmas.Iterator.Search.{YieldsList-from_take_while}
+use Rattle.std.proofs.lemmas.List.Folds.{length-prefix_len}
+use lib.ListN.{drop}
+use Rattle.entries.specs.Entries.{is_blank, skipped}
+use Rattle.entries.proofs.Texts.{blanks_counted}
 use Rattle.entries.proofs.skip.Goals as goal
 
-pub loop-at-init : goal.loop-at-init
-loop-at-init c = refl
-
-pub returns-then-not-is_blank : goal.returns-then-not-is_blank
-returns-then-not-is_blank c =
-    skip_here _ _ c.loop-at-test.true (answered _ _ _ c.is_blank.ensures (c.if-not-is_blank.true))
-    ∙ c.loop-at.invariant
-
-pub overflow_add-at : goal.overflow_add-at
-overflow_add-at c = omega arith
-
-pub loop-at-smaller : goal.loop-at-smaller
-loop-at-smaller c = omega arith
-
-pub loop-at-preserved : goal.loop-at-preserved
-loop-at-preserved c =
-    skip_later _ _ c.loop-at-test.true (answered _ _ _ c.is_blank.ensures (c.if-not-is_blank.false))
-    ∙ c.loop-at.invariant
-
 pub returns : goal.returns
-returns c = skip_past _ _ c.loop-at-test.false ∙ c.loop-at.invariant
+unfolding skipped
+returns c =
+    let text = c.args.text.now in
+    let counted =
+    count_from_yields_List c.take_while.result _ c.count.ensures.ran
+    (YieldsList-from_take_while _ is_blank
+    (YieldsList-at c.take_while.ensures.source (YieldsList-from_skip c.args.from (YieldsList-at c.skip.ensures.source (YieldsList-from_slice text cc)) c.skip.ensures.count))
+    c.take_while.ensures.closure c.take_while.ensures.done (λ x b q k. search (rules, tests)))
+    in
+    rw (counted, length-prefix_len is_blank (drop c.args.from text), blanks_counted (drop c.args.from text))

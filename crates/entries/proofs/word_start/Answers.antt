@@ -2,23 +2,17 @@
 -- Assumes nothing.
 use mathlib.Core.Path.{◌≡◌, ap, ◌∙◌}
 use native.Mathlib.Omega.{arith}
-use Rattle.entries.specs.Entries.{skipped, word_end, word_start}
+use Rattle.entries.specs.Entries.{word_start}
 use Rattle.entries.proofs.Texts.{start_first, start_next}
 use Rattle.entries.proofs.word_start.Goals as goal
 
-pub loop-i-init : goal.loop-i-init
-loop-i-init c = (c.skip-start.ensures ∙ start_first _, omega arith)
+pub loop-init : goal.loop-init
+loop-init c = c.skip-start.ensures ∙ start_first _
 
-pub loop-i-preserved : goal.loop-i-preserved
-loop-i-preserved c =
-    let text = c.args.text.now in
-    let loop = c.loop-i in
-    let end = c.word_end-end.ensures ∙ ap (word_end text) loop.invariant.0 in
-    (c.skip-start-in-loop-i.ensures ∙ ap (skipped text) end ∙ start_next text loop.i, omega (arith, c.loop-i-test.true))
+pub loop-preserved : goal.loop-preserved
+loop-preserved c = rw (c.skip-start-in-loop.ensures, c.word_end.ensures, c.loop.invariant) (start_next c.args.text.now c.loop.counter)
 
 pub returns : goal.returns
 returns c =
-    let a = c.args in
-    let loop = c.loop-i in
-    let last : loop.i ≡ a.n = omega (arith, loop.invariant.1, c.loop-i-test.false) in
-    loop.invariant.0 ∙ ap (word_start a.text.now) last
+    let last : c.loop.counter ≡ c.args.n = omega arith in
+    c.loop.invariant ∙ ap (word_start c.args.text.now) last

@@ -1,39 +1,39 @@
--- `old_sum` adds the ten phases as the old bench had them.
+-- `Bench::old_sum` adds the ten phases as the old bench had them.
 -- Assumes nothing.
 use Rattle.counts.proofs.Sums.{sum_is}
 use Rattle.times.specs.Times.{old_lasting}
 use Rattle.times.proofs.Bounds.{plan_within}
-use Rattle.times.proofs.old_sum.Goals as goal
+use Rattle.times.proofs.Bench.old_sum.Goals as goal
 
 pub old_lasting-requires : goal.old_lasting-requires
-old_lasting-requires c = (c.requires.0, (plan_within c.args.plan c.requires.1).calibration)
+old_lasting-requires c = (plan_within c.args.plan c.requires).calibration
 
 pub old_lasting-requires-2 : goal.old_lasting-requires-2
-old_lasting-requires-2 c = (c.requires.0, (plan_within c.args.plan c.requires.1).handshake)
+old_lasting-requires-2 c = (plan_within c.args.plan c.requires).handshake
 
 pub old_lasting-requires-3 : goal.old_lasting-requires-3
-old_lasting-requires-3 c = (c.requires.0, (plan_within c.args.plan c.requires.1).connection)
+old_lasting-requires-3 c = (plan_within c.args.plan c.requires).connection
 
 pub old_lasting-requires-4 : goal.old_lasting-requires-4
-old_lasting-requires-4 c = (c.requires.0, (plan_within c.args.plan c.requires.1).version)
+old_lasting-requires-4 c = (plan_within c.args.plan c.requires).version
 
 pub old_lasting-requires-5 : goal.old_lasting-requires-5
-old_lasting-requires-5 c = (c.requires.0, (plan_within c.args.plan c.requires.1).command)
+old_lasting-requires-5 c = (plan_within c.args.plan c.requires).command
 
 pub old_lasting-requires-6 : goal.old_lasting-requires-6
-old_lasting-requires-6 c = (c.requires.0, (plan_within c.args.plan c.requires.1).size)
+old_lasting-requires-6 c = (plan_within c.args.plan c.requires).size
 
 pub old_lasting-requires-7 : goal.old_lasting-requires-7
-old_lasting-requires-7 c = (c.requires.0, (plan_within c.args.plan c.requires.1).image)
+old_lasting-requires-7 c = (plan_within c.args.plan c.requires).image
 
 pub old_lasting-requires-8 : goal.old_lasting-requires-8
-old_lasting-requires-8 c = (c.requires.0, (plan_within c.args.plan c.requires.1).ram)
+old_lasting-requires-8 c = (plan_within c.args.plan c.requires).ram
 
 pub old_lasting-requires-9 : goal.old_lasting-requires-9
-old_lasting-requires-9 c = (c.requires.0, (plan_within c.args.plan c.requires.1).programming)
+old_lasting-requires-9 c = (plan_within c.args.plan c.requires).programming
 
 pub old_lasting-requires-10 : goal.old_lasting-requires-10
-old_lasting-requires-10 c = (c.requires.0, (plan_within c.args.plan c.requires.1).verification)
+old_lasting-requires-10 c = (plan_within c.args.plan c.requires).verification
 
 pub returns : goal.returns
 returns c =
@@ -50,7 +50,7 @@ returns c =
         c.old_lasting-8.ensures.0,
         c.old_lasting-9.ensures.0,
         c.old_lasting-10.ensures.0,
-        sum_is (old_lasting a.settings) a.plan,
+        sum_is (old_lasting a.self.settings) a.plan,
       ),
       c.sum.ensures.1,
     )

@@ -1,39 +1,39 @@
--- `times_of` has each phase, their sums, and those of all trackers.
+-- `Bench::times_of` has each phase, their sums, and those of all trackers.
 -- Assumes nothing.
 use Rattle.counts.proofs.Sums.{sum_is}
 use Rattle.times.specs.Times.{lasting}
 use Rattle.times.proofs.Bounds.{plan_within}
-use Rattle.times.proofs.times_of.Goals as goal
+use Rattle.times.proofs.Bench.times_of.Goals as goal
 
 pub lasting-calibration-requires : goal.lasting-calibration-requires
-lasting-calibration-requires c = (c.requires.0, (plan_within c.args.plan c.requires.1).calibration)
+lasting-calibration-requires c = (plan_within c.args.plan c.requires).calibration
 
 pub lasting-handshake-requires : goal.lasting-handshake-requires
-lasting-handshake-requires c = (c.requires.0, (plan_within c.args.plan c.requires.1).handshake)
+lasting-handshake-requires c = (plan_within c.args.plan c.requires).handshake
 
 pub lasting-connection-requires : goal.lasting-connection-requires
-lasting-connection-requires c = (c.requires.0, (plan_within c.args.plan c.requires.1).connection)
+lasting-connection-requires c = (plan_within c.args.plan c.requires).connection
 
 pub lasting-version-requires : goal.lasting-version-requires
-lasting-version-requires c = (c.requires.0, (plan_within c.args.plan c.requires.1).version)
+lasting-version-requires c = (plan_within c.args.plan c.requires).version
 
 pub lasting-command-requires : goal.lasting-command-requires
-lasting-command-requires c = (c.requires.0, (plan_within c.args.plan c.requires.1).command)
+lasting-command-requires c = (plan_within c.args.plan c.requires).command
 
 pub lasting-size-requires : goal.lasting-size-requires
-lasting-size-requires c = (c.requires.0, (plan_within c.args.plan c.requires.1).size)
+lasting-size-requires c = (plan_within c.args.plan c.requires).size
 
 pub lasting-image-requires : goal.lasting-image-requires
-lasting-image-requires c = (c.requires.0, (plan_within c.args.plan c.requires.1).image)
+lasting-image-requires c = (plan_within c.args.plan c.requires).image
 
 pub lasting-ram-requires : goal.lasting-ram-requires
-lasting-ram-requires c = (c.requires.0, (plan_within c.args.plan c.requires.1).ram)
+lasting-ram-requires c = (plan_within c.args.plan c.requires).ram
 
 pub lasting-programming-requires : goal.lasting-programming-requires
-lasting-programming-requires c = (c.requires.0, (plan_within c.args.plan c.requires.1).programming)
+lasting-programming-requires c = (plan_within c.args.plan c.requires).programming
 
 pub lasting-verification-requires : goal.lasting-verification-requires
-lasting-verification-requires c = (c.requires.0, (plan_within c.args.plan c.requires.1).verification)
+lasting-verification-requires c = (plan_within c.args.plan c.requires).verification
 
 pub returns : goal.returns
 returns c =
@@ -53,5 +53,5 @@ returns c =
       c.lasting-ram.ensures.0,
       c.lasting-programming.ensures.0,
       c.lasting-verification.ensures.0,
-      sum_is (lasting a.settings) a.plan,
+      sum_is (lasting a.self.settings) a.plan,
     )
