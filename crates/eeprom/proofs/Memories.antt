@@ -5,9 +5,9 @@ use mathlib.Core.List.{List, [], ◌∷◌}
 use mathlib.Core.Logic.{◌↔◌}
 use mathlib.Core.Path.{◌≡◌, refl, sym, ◌∙◌}
 use Prim.Native.Nat.{ℕ, ◌*◌, ◌≤◌}
-use native.Mathlib.Nat.{min-le_right}
+use native.Mathlib.Nat.{min-le_right, min-eq_left}
 use native.Mathlib.Omega.{arith}
-use lib.ListN.{length, length-set}
+use lib.ListN.{length, take, length-take, length-set}
 use lib.Dec.{eqb}
 use borrow.Author.Tests.{eqb-true, eq-eqb}
 use Rattle.terms.proofs.Tests.{when_elim, both_true}
@@ -43,6 +43,14 @@ accepted_fits fault ram eeprom =
     let most = accepts_most fault in
     (omega (arith, long.0), omega (arith, long.1)))
     (λ e. (omega arith, omega arith))
+
+pub accepted_of_ram : (fault : Fault) (ram eeprom : List ℕ)
+    → length (take (accepted fault ram eeprom * 64) ram) ≡ accepted fault ram eeprom * 64
+accepted_of_ram fault ram eeprom = length-take _ ram ∙ min-eq_left (accepted_fits fault ram eeprom).0
+
+pub accepted_of_eeprom : (fault : Fault) (ram eeprom : List ℕ)
+    → length (take (accepted fault ram eeprom * 64) eeprom) ≡ accepted fault ram eeprom * 64
+accepted_of_eeprom fault ram eeprom = length-take _ eeprom ∙ min-eq_left (accepted_fits fault ram eeprom).1
 
 pub programmed_length : (fault : Fault) (ram eeprom : List ℕ) → length (programmed fault ram eeprom) ≡ length eeprom
 programmed_length fault ram eeprom =

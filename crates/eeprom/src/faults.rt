@@ -1,129 +1,97 @@
 // The EEPROM with its fault: what it accepts, whether it acknowledges, and how it reads.
-ghost use Rattle.std.specs.Prelude.{◌≡◌, ◌-◌, ◌<◌, min, get_or, length, set};
+ghost use Rattle.std.specs.Prelude.{◌≡◌, ◌<◌, get_or, length};
 ghost use Rattle.eeprom.specs.Eeprom.{accepted, accepts, acknowledges, after, readable, reads, same, whole};
 
 use crate::{Fault, PAGES};
 use units::Bytes;
 
-// The pages that a programming of both memories writes.
-pub(crate) fn accepted(fault: Fault, ram: &[u8], eeprom: &[u8]) -> u32
-    ensures { result ≡ accepted fault ram.now eeprom.now }
-{
-    if is_whole(ram, eeprom) {
-        return accepts(fault);
+#[tactic(auto, unfolding(crate::specs::Eeprom::accepted, crate::specs::Eeprom::readable, terms::specs::Choice::when, terms::specs::Choice::both))]
+impl Fault {
+    // The pages that a programming of both memories writes.
+    pub(crate) fn accepted(self, ram: &[u8], eeprom: &[u8]) -> u32
+        ensures { result ≡ accepted self ram.now eeprom.now }
+    {
+        if is_whole(ram, eeprom) {
+            self.accepts()
+        } else {
+            0
+        }
     }
-    0
+
+    fn accepts(self) -> u32
+        ensures { result ≡ accepts self }
+    {
+        match self {
+            Fault::Accepts(pages) => pages.min(PAGES),
+            Fault::None | Fault::Reads(..) => PAGES,
+        }
+    }
+
+    // The fault once so many pages were accepted.
+    pub(crate) fn after(self, pages: u32) -> Fault
+        ensures { result ≡ after self pages }
+    {
+        match self {
+            Fault::Accepts(left) => Fault::Accepts(left.saturating_sub(pages)),
+            Fault::None | Fault::Reads(..) => self,
+        }
+    }
+
+    pub(crate) fn acknowledges(self) -> bool
+        ensures { result ≡ acknowledges self }
+    {
+        !matches!(self, Fault::Accepts(0))
+    }
+
+    // Whether RAM can be read whole from the EEPROM.
+    pub(crate) fn is_readable(self, ram: &[u8], eeprom: &[u8]) -> bool
+        ensures { result ≡ readable self ram.now eeprom.now }
+    {
+        is_whole(ram, eeprom) && self.acknowledges()
+    }
+
+    // RAM made what the EEPROM reads as.
+    pub(crate) fn read_whole(self, ram: &mut [u8], eeprom: &[u8])
+        requires { length ram.old ≡ length eeprom.now }
+        ensures { ram.new ≡ reads self eeprom.now }
+    {
+        ram.copy_from_slice(eeprom);
+        if let Fault::Reads(value, at) = self
+            && at.0 < ram.len()
+        {
+            ram[at.0] = value;
+        }
+    }
+
+    // Whether each byte of the EEPROM, as it reads, is the RAM's.
+    pub(crate) fn is_same(self, ram: &[u8], eeprom: &[u8]) -> bool
+        ensures { result ≡ same ram.now (reads self eeprom.now) }
+    {
+        if ram.len() != eeprom.len() {
+            return false;
+        }
+        for (at, byte) in ram.iter().enumerate() {
+            if *byte != self.read(eeprom, at) {
+                return false;
+            }
+        }
+        true
+    }
+
+    fn read(self, eeprom: &[u8], at: usize) -> u8
+        requires { at < length eeprom.now }
+        ensures { result ≡ get_or (reads self eeprom.now) at 0 }
+    {
+        match self {
+            Fault::Reads(value, place) if place.0 == at => value,
+            _ => eeprom[at],
+        }
+    }
 }
 
+#[tactic(auto, unfolding(crate::specs::Eeprom::whole, terms::specs::Choice::both))]
 fn is_whole(ram: &[u8], eeprom: &[u8]) -> bool
     ensures { result ≡ whole ram.now eeprom.now }
 {
-    if ram.len() == Bytes::MEMORY.0 {
-        return eeprom.len() == Bytes::MEMORY.0;
-    }
-    false
-}
-
-fn accepts(fault: Fault) -> u32
-    ensures { result ≡ accepts fault }
-{
-    match fault {
-        Fault::None => PAGES,
-        Fault::Accepts(pages) => at_most_all(pages),
-        Fault::Reads(_, _) => PAGES,
-    }
-}
-
-fn at_most_all(pages: u32) -> u32
-    ensures { result ≡ min pages 512 }
-{
-    if PAGES < pages { PAGES } else { pages }
-}
-
-// The fault once so many pages were accepted.
-pub(crate) fn after(fault: Fault, pages: u32) -> Fault
-    ensures { result ≡ after fault pages }
-{
-    match fault {
-        Fault::None => fault,
-        Fault::Accepts(left) => Fault::Accepts(less(left, pages)),
-        Fault::Reads(_, _) => fault,
-    }
-}
-
-fn less(left: u32, pages: u32) -> u32
-    ensures { result ≡ left - pages }
-{
-    if left < pages { 0 } else { left - pages }
-}
-
-pub(crate) fn acknowledges(fault: Fault) -> bool
-    ensures { result ≡ acknowledges fault }
-{
-    match fault {
-        Fault::None => true,
-        Fault::Accepts(left) => left != 0,
-        Fault::Reads(_, _) => true,
-    }
-}
-
-// Whether RAM can be read whole from the EEPROM.
-pub(crate) fn is_readable(fault: Fault, ram: &[u8], eeprom: &[u8]) -> bool
-    ensures { result ≡ readable fault ram.now eeprom.now }
-{
-    if is_whole(ram, eeprom) {
-        return acknowledges(fault);
-    }
-    false
-}
-
-// RAM made what the EEPROM reads as.
-pub(crate) fn read_whole(fault: Fault, ram: &mut [u8], eeprom: &[u8])
-    requires { length ram.old ≡ length eeprom.now }
-    ensures { ram.new ≡ reads fault eeprom.now }
-{
-    let mut at = 0;
-    while at < eeprom.len() {
-        ram[at] = read(fault, eeprom, at);
-        at += 1;
-    }
-}
-
-// Whether each byte of the EEPROM, as it reads, is the RAM's.
-pub(crate) fn is_same(fault: Fault, ram: &[u8], eeprom: &[u8]) -> bool
-    ensures { result ≡ same ram.now (reads fault eeprom.now) }
-{
-    if ram.len() != eeprom.len() {
-        return false;
-    }
-    let mut at = 0;
-    while at < ram.len() {
-        if ram[at] != read(fault, eeprom, at) {
-            return false;
-        }
-        at += 1;
-    }
-    true
-}
-
-fn read(fault: Fault, eeprom: &[u8], at: usize) -> u8
-    requires { at < length eeprom.now }
-    ensures { result ≡ get_or (reads fault eeprom.now) at 0 }
-{
-    match fault {
-        Fault::None => eeprom[at],
-        Fault::Accepts(_) => eeprom[at],
-        Fault::Reads(value, place) => read_with(eeprom, place.0, value, at),
-    }
-}
-
-// The byte at `at` of an EEPROM whose byte at `place` reads as another.
-fn read_with(eeprom: &[u8], place: usize, value: u8, at: usize) -> u8
-    requires { at < length eeprom.now }
-    ensures { result ≡ get_or (set eeprom.now place value) at 0 }
-{
-    if place == at {
-        return value;
-    }
-    eeprom[at]
+    ram.len() == Bytes::MEMORY.0 && eeprom.len() == Bytes::MEMORY.0
 }

@@ -13,15 +13,14 @@ pub fn longest() -> [u8; 32_760]
     ensures { result ≡ longest_image }
 {
     let mut image = [0u8; 32_760];
-    let mut at = 16;
-    while at < LENGTH {
+    // By index: of what is written behind `iter_mut().enumerate().skip(16)` the proof knows nothing.
+    for at in 16..LENGTH {
         image[at] = (at % 251) as u8;
-        at += 1;
     }
     image[6] = 16;
     image[8] = (LENGTH % 256) as u8;
     image[9] = (LENGTH / 256) as u8;
     image[11] = 128;
-    image[0] = std::num::wrapping_sub_u8(20, lent::sum(&image));
+    image[0] = 20u8.wrapping_sub(lent::sum(&image));
     image
 }

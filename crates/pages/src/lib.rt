@@ -10,7 +10,7 @@ use units::Bytes;
 const PAGE: usize = Bytes::PAGE.0;
 
 // One of the two memories.
-#[derive(Clone, Copy)]
+#[derive(Clone, Copy, PartialEq, Eq, Debug)]
 pub enum Memory {
     Ram,
     Eeprom,
@@ -28,15 +28,13 @@ pub fn page<'a>(ram: &'a [u8], eeprom: &'a [u8], memory: Memory, k: u32) -> &'a 
     }
 }
 
+#[tactic(auto, unfolding(crate::specs::Page::has_page, crate::specs::Page::page_bytes, crate::specs::Page::page_start, terms::specs::Choice::when, terms::specs::Choice::both))]
 fn part<'a>(memory: &'a [u8], k: u32) -> &'a [u8]
     ensures result_value { result.now ≡ page_bytes k memory.now }
     ensures ref_ptr_value { result.ref_ptr ≡ page_start k memory.entry.ref_ptr memory.now }
 {
-    if memory.len() != Bytes::MEMORY.0 {
-        return &memory[0..0];
-    }
-    if PAGES <= k {
-        return &memory[0..0];
+    if memory.len() != Bytes::MEMORY.0 || PAGES <= k {
+        return &memory[..0];
     }
     let start = k as usize * PAGE;
     &memory[start..start + PAGE]

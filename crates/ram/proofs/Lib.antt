@@ -1,4 +1,3 @@
 pub mod Stored
 pub mod Sums
-pub mod Turns
 pub mod Unique

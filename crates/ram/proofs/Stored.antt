@@ -1,10 +1,21 @@
 -- Laws of RAM: what is done to it keeps its length; and the flag longs of a D of 4 and of 0 (01, P9 and P10).
 -- Assumes nothing.
-use Rattle.std.proofs.Common.{◌≡◌, ℕ, ◌+◌, ◌≤◌, List, ◌∷◌, ◌++◌, length, take, drop, refl, ◌∙◌, arith, length-append, length-drop, length-take, le-leb, leb-true}
+use Rattle.std.proofs.Common.{◌≡◌, ℕ, ◌+◌, ◌≤◌, ◌<◌, List, ◌∷◌, ◌++◌, length, take, drop, refl, ◌∙◌, arith, length-append, length-drop, length-take, le-leb, leb-true}
 use native.Mathlib.Nat.{min-eq_left}
 use lib.ListN.{length-replicate}
+use borrow.Author.Tests.{lt-leb}
 use Rattle.terms.proofs.Tests.{when_true, when_false, when_elim}
 use Rattle.ram.specs.Ram.{long_bytes, stored, zeroed, flag_stored, flagged_below, flagged}
+
+module _ (at v : ℕ) (ram : List ℕ) where
+  -- Where it fits, the four bytes are replaced; elsewhere nothing is.
+  pub stored_whole : at + 4 ≤ length ram → stored at v ram ≡ take at ram ++ long_bytes v ++ drop (at + 4) ram
+  unfolding stored
+  stored_whole h = when_true _ _ (le-leb _ _ h)
+
+  pub stored_past : length ram < at + 4 → stored at v ram ≡ ram
+  unfolding stored
+  stored_past h = when_false _ _ (lt-leb _ _ h)
 
 long_length : (at v : ℕ) (ram : List ℕ) → at + 4 ≤ length ram → length (take at ram ++ long_bytes v ++ drop (at + 4) ram) ≡ length ram
 long_length at v ram h =

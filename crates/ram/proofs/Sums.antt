@@ -1,7 +1,6 @@
 -- Sums of RAM: what is zeroed adds nothing, and a store changes the sum by what it stores less what stood there.
 -- Assumes nothing.
-use Rattle.std.proofs.Common.{◌≡◌, ℕ, ◌+◌, ◌-◌, ◌*◌, ◌/◌, ◌%◌, ◌<◌, ◌≤◌, List, ◌++◌, length, take, drop, replicate, sym, refl, ap, ◌∙◌, add-zero, arith, take-append-drop, drop-drop, le-ltb, lt-ltb, le-leb}
-use native.Mathlib.Nat.{add-mul-mod_self_right}
+use Rattle.std.proofs.Common.{◌≡◌, ℕ, ◌+◌, ◌-◌, ◌%◌, ◌<◌, ◌≤◌, List, ◌++◌, length, take, drop, replicate, sym, refl, ap, ◌∙◌, add-zero, arith, take-append-drop, drop-drop, le-ltb, lt-ltb, le-leb}
 use borrow.Author.Tests.{lt-leb}
 use Rattle.terms.proofs.Tests.{when_true, when_false, when_elim}
 use Rattle.lent.specs.Bytes.{total}
@@ -29,13 +28,6 @@ replaced_sum at new ram =
     let past : total (drop 4 (drop at ram)) ≡ total (drop (at + 4) ram) = ap total (drop-drop 4 at ram) in
     omega (arith, outer, inner, whole, rest, past)
 
--- `less` is a sum without the four bytes that stood there: with those of a flag long it is the sum again. They add 1,014, or 246.
-sum_moves : (new stood all less : ℕ) → new + stood ≡ all + 1014 → (less + stood % 256) % 256 ≡ all % 256 → (less + 246) % 256 ≡ new % 256
-sum_moves new stood all less e l =
-    let same : new + (stood / 256 + (less + stood % 256) / 256) * 256 ≡ less + 246 + (all / 256 + 3) * 256 = omega (arith, e, l) in
-    sym (add-mul-mod_self_right (less + 246) (all / 256 + 3) 256) ∙ ap (λ (n : ℕ). n % 256) (sym same)
-    ∙ add-mul-mod_self_right new (stood / 256 + (less + stood % 256) / 256) 256
-
 module _ (at : ℕ) (ram : List ℕ) where
   pub flag_high : 32768 ≤ at → flag_stored at ram ≡ ram
   unfolding flag_stored
@@ -56,10 +48,10 @@ module _ (at : ℕ) (ram : List ℕ) where
         ap (λ (l : List ℕ). total l + total (take 4 (drop at ram))) (when_true _ _ (le-leb _ _ fits))
         ∙ replaced_sum at (long_bytes 0xFFF9FFFF) ram
 
-    -- A sum, less that of the part that is replaced, and with a flag long's.
-    pub sum_changes : (sum old less next : ℕ) → sum ≡ total ram % 256 → old ≡ total (take (at + 4 - at) (drop at ram)) % 256
-        → (less + old) % 256 ≡ sum → next ≡ (less + 246) % 256 → next ≡ total (stored at 0xFFF9FFFF ram) % 256
-    sum_changes sum old less next s o l n =
+    -- A sum, less that of the part that is replaced, and with a flag long's: its bytes add 1,014, or 246.
+    pub sum_changes : (sum old : ℕ) → sum ≡ total ram % 256 → old ≡ total (take (at + 4 - at) (drop at ram)) % 256
+        → ((sum + (256 - old)) % 256 + 246) % 256 ≡ total (stored at 0xFFF9FFFF ram) % 256
+    sum_changes sum old s o =
         let four : at + 4 - at ≡ 4 = omega arith in
         let stood : old ≡ total (take 4 (drop at ram)) % 256 = rw four at o in
-        n ∙ sum_moves _ _ (total ram) less stored_sum (ap (λ (x : ℕ). (less + x) % 256) (sym stood) ∙ l ∙ s)
+        omega (arith, s, stood, stored_sum)

@@ -15,13 +15,12 @@ const FLAGS_SUM: u8 = 246;
 // The word D at this place says where the flag longs are stored.
 const STACK_AT: Bytes = Bytes(10);
 
+#[tactic(auto, unfolding(crate::specs::Ram::zeroed))]
 pub(crate) fn zero_from(ram: &mut [u8], from: usize)
     ensures { ram.new ≡ zeroed from ram.old }
 {
-    let mut at = from;
-    while at < ram.len() {
-        ram[at] = 0;
-        at += 1;
+    if from < ram.len() {
+        ram[from..].fill(0);
     }
 }
 
@@ -29,13 +28,11 @@ pub(crate) fn zero_from(ram: &mut [u8], from: usize)
 pub(crate) fn sum_before(ram: &[u8], end: usize) -> u8
     ensures { result ≡ total (take end ram.now) % 256 }
 {
-    if ram.len() <= end {
-        return lent::sum(ram);
-    }
-    lent::sum(&ram[..end])
+    lent::sum(ram.get(..end).unwrap_or(ram))
 }
 
 // The flag longs below D, which is read before the first of them is stored. The sum of all bytes comes, and goes as it is then.
+#[tactic(auto, unfolding(crate::specs::Ram::flagged))]
 pub(crate) fn store_both(ram: &mut [u8], sum: u8) -> u8
     requires { sum ≡ total ram.old % 256 }
     ensures ram_after { ram.new ≡ flagged ram.old }
@@ -50,24 +47,22 @@ pub(crate) fn store_both(ram: &mut [u8], sum: u8) -> u8
 fn flag_at(d: u16, below: u16) -> u16
     ensures { result ≡ flag_at d below }
 {
-    std::num::wrapping_sub_u16(d, below) >> 2 << 2
+    d.wrapping_sub(below) >> 2 << 2
 }
 
 // A flag long at an address; nothing at 32,768 or above. It changes the sum by what it stores less what stood there.
+#[tactic(auto, using(crate::proofs::Sums::flag_high, crate::proofs::Sums::flag_past, crate::proofs::Sums::flag_low, crate::proofs::Sums::sum_changes))]
 fn store_flag(ram: &mut [u8], at: u16, sum: u8) -> u8
     requires { sum ≡ total ram.old % 256 }
     ensures ram_after { ram.new ≡ flag_stored at ram.old }
     ensures value { result ≡ total ram.new % 256 }
 {
-    let from = at as usize;
-    if Bytes::MEMORY.0 <= from {
-        return sum;
-    }
+    let from = usize::from(at);
     let to = from + 4;
-    if ram.len() < to {
+    if Bytes::MEMORY.0 <= from || ram.len() < to {
         return sum;
     }
     let old = lent::sum(&ram[from..to]);
     store(ram, Bytes(from), FLAGS);
-    std::num::wrapping_add_u8(std::num::wrapping_sub_u8(sum, old), FLAGS_SUM)
+    sum.wrapping_sub(old).wrapping_add(FLAGS_SUM)
 }

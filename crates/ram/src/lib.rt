@@ -14,24 +14,20 @@ const ORIGIN_AT: Bytes = Bytes(6);
 const ORIGIN: u16 = 16;
 
 // Stores a long at an address, low byte first; nothing where it does not fit.
+#[tactic(auto, using(crate::proofs::Stored::stored_whole, crate::proofs::Stored::stored_past))]
 pub fn store(ram: &mut [u8], at: Bytes, value: u32)
     ensures { ram.new ≡ stored at.0 value ram.old }
 {
-    let at = at.0;
-    if ram.len() < 4 {
-        return;
+    if let Some(end) = at.0.checked_add(4)
+        && end <= ram.len()
+    {
+        ram[at.0..end].copy_from_slice(&value.to_le_bytes());
     }
-    if ram.len() - 4 < at {
-        return;
-    }
-    ram[at] = (value % 256) as u8;
-    ram[at + 1] = (value / 256 % 256) as u8;
-    ram[at + 2] = (value / 65_536 % 256) as u8;
-    ram[at + 3] = (value / 16_777_216) as u8;
 }
 
 // Finishes a load whose longs end at `end`: zeroes the rest, stores the flag longs, and says whether the checksum is good. The zeros are
 // not read for that: they add nothing.
+#[tactic(auto, using(crate::proofs::Sums::zeroed_sum))]
 pub fn finish(ram: &mut [u8], end: Bytes) -> bool
     ensures ram_after { ram.new ≡ finished end.0 ram.old }
     ensures value { result ≡ sums_to_zero (finished end.0 ram.old) }
