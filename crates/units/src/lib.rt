@@ -6,27 +6,27 @@ ghost use Rattle.std.specs.Prelude.{◌≡◌, min, nat_abs};
 ghost use Rattle.units.specs.Units.{most, longs_in, bytes_in, end_of, loops_of, loops_in, difference};
 
 // Ticks of the bench's clock.
-#[derive(Clone, Copy)]
+#[derive(Clone, Copy, PartialEq, Eq, PartialOrd, Ord, Debug)]
 pub struct Ticks(pub u64);
 
 // Loops of the chip's wait for an edge: the ROM counts them in 32 bits.
-#[derive(Clone, Copy)]
+#[derive(Clone, Copy, PartialEq, Eq, PartialOrd, Ord, Debug)]
 pub struct Loops(pub u32);
 
 // A count of loops less another. 64 bits hold it for any two counts.
-#[derive(Clone, Copy)]
+#[derive(Clone, Copy, PartialEq, Eq, PartialOrd, Ord, Debug)]
 pub struct Distance(pub i64);
 
 // Bytes of an image or of a memory.
-#[derive(Clone, Copy)]
+#[derive(Clone, Copy, PartialEq, Eq, PartialOrd, Ord, Debug)]
 pub struct Bytes(pub usize);
 
 // Longs of four bytes: the ROM takes their number in 32 bits.
-#[derive(Clone, Copy)]
+#[derive(Clone, Copy, PartialEq, Eq, PartialOrd, Ord, Debug)]
 pub struct Longs(pub u32);
 
 // What the host sees around a pulse, and what the chip replies at its rise.
-#[derive(Clone, Copy)]
+#[derive(Clone, Copy, PartialEq, Eq, Debug)]
 pub enum Seen {
     Silence,
     Zero,
