@@ -35,18 +35,17 @@ impl Chip {
         ensures { told result ≡ chip_start ram.now eeprom.now fault }
     {
         if ram.len() != Bytes::MEMORY.0 {
-            return Err(Refusal::Ram);
+            Err(Refusal::Ram)
+        } else if eeprom.len() != Bytes::MEMORY.0 {
+            Err(Refusal::Eeprom)
+        } else if fault.is_outside() {
+            Err(Refusal::Fault)
+        } else {
+            Ok(Chip {
+                fault,
+                receiver: Receiver::FRESH,
+            })
         }
-        if eeprom.len() != Bytes::MEMORY.0 {
-            return Err(Refusal::Eeprom);
-        }
-        if fault.is_outside() {
-            return Err(Refusal::Fault);
-        }
-        Ok(Chip {
-            fault,
-            receiver: Receiver::FRESH,
-        })
     }
 
     // The next pulse, `wait` the high before it and `low` its own length, or a refusal: 10 or 11 for a memory that is not of its size,
