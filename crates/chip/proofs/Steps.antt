@@ -5,7 +5,6 @@ use mathlib.Core.List.{List}
 use mathlib.Core.Path.{◌≡◌, refl, sym, ap, ◌∙◌}
 use Prim.Native.Nat.{ℕ}
 use Rattle.terms.specs.Refusals.{Answer, refused, taken, first, Given}
-use Rattle.terms.proofs.Answers.{back}
 use Rattle.terms.proofs.Refusals.{Clear, not_both, refused_exactly, clear_taken, taken_exactly}
 use Rattle.units.specs.Line.{told}
 use Rattle.eeprom.specs.declared.Done.{Done}
@@ -38,6 +37,11 @@ module _ (c : Chip) (ram eeprom : List ℕ) (wait low : ℕ) where
       ∙ ap (unless_refused ram eeprom) e
       ∙ ap (λ (g : Received). unless_refused ram eeprom (first (step_rows c ram eeprom) (pulse c ram eeprom g))) heard
 
+-- The reply of an answer, or another where it was refused.
+abbrev reply_of : Reply → Answer Reply → Reply
+reply_of r (refused n) = r
+reply_of r (taken x) = x
+
 -- What a step left that wasn't refused.
 pub record Stepping (c : Chip) (ram eeprom : List ℕ) (h : Received) (r : Reply) (ram' eeprom' : List ℕ) : Type 0 where
   pub passed : Clear (step_rows c ram eeprom)
@@ -54,7 +58,7 @@ module _ (c : Chip) (ram eeprom : List ℕ) (h : Received) where
       let same : left (taken r) ram' eeprom' ≡ pulse c ram eeprom h = sym q ∙ known.1 in
       record {
         passed = known.0;
-        chip_after = ap (λ (y : Left). (back (λ n. r) (λ x. x) y.answer).chip) same;
+        chip_after = ap (λ (y : Left). (reply_of r y.answer).chip) same;
         ram_after_lem = ap (λ (y : Left). y.ram) same;
         eeprom_after = ap (λ (y : Left). y.eeprom) same;
       }
@@ -62,7 +66,9 @@ module _ (c : Chip) (ram eeprom : List ℕ) (h : Received) where
   -- A number is given for its row alone.
   numbered : (n : ℕ) (a : Answer Left) → first (step_rows c ram eeprom) (pulse c ram eeprom h) ≡ a
       → (unless_refused ram eeprom a).answer ≡ refused n → Given n (step_rows c ram eeprom)
-  numbered n (refused m) e q = (refused_exactly (pulse c ram eeprom h) n (step_rows c ram eeprom)).0 (e ∙ ap (back refused (λ x. refused 0)) q)
+  numbered n (refused m) e q =
+      let same : m ≡ n = cc in
+      (refused_exactly (pulse c ram eeprom h) n (step_rows c ram eeprom)).0 (e ∙ ap refused same)
   numbered n (taken x) e q =
       let known = (taken_exactly (pulse c ram eeprom h) x (step_rows c ram eeprom)).0 e in
       let p : (pulse c ram eeprom h).answer ≡ refused n = ap (λ (y : Left). y.answer) (sym known.1) ∙ q in

@@ -1,8 +1,9 @@
 -- 01, "What the chip does": the chip's start and its steps.
 -- Assumes nothing.
-use Rattle.std.specs.Prelude.{Bool, not, List, [], ◌∷◌, ℕ, eqb, length}
+use Rattle.std.specs.Prelude.{Bool, not, List, [], ◌∷◌, ℕ, eqb, length, Result, Ok, Err}
 use Rattle.terms.specs.Choice.{either}
-use Rattle.terms.specs.Refusals.{Row, Answer, refused, taken, ◌given-when◌, first}
+use Rattle.terms.specs.Refusals.{Row, Answer, refused, taken, ◌given-when◌, first, number}
+use Rattle.terms.specs.declared.Refusal.{Refusal}
 use Rattle.units.specs.Line.{Line, told}
 use Rattle.phases.specs.Phases.{ended}
 use Rattle.phases.specs.declared.Phase.TheVariants.{First}
@@ -14,10 +15,7 @@ use Rattle.eeprom.specs.Eeprom.{fault_outside}
 use Rattle.eeprom.specs.declared.Fault.{Fault}
 use Rattle.chip.specs.Work.{Worked, done}
 use Rattle.chip.specs.declared.Chip.{Chip}
-use Rattle.chip.specs.declared.Started.{Started}
-use Rattle.chip.specs.declared.Started.TheVariants as started
-use Rattle.chip.specs.declared.Stepped.{Stepped}
-use Rattle.chip.specs.declared.Stepped.TheVariants as stepped
+use Rattle.chip.specs.declared.Played.{Played}
 
 -- A chip before its first pulse.
 abbrev pub fresh : Fault → Chip
@@ -97,11 +95,7 @@ unfoldable pub chip_step : Chip → List ℕ → List ℕ → ℕ → ℕ → Le
 chip_step c ram eeprom wait low =
     unless_refused ram eeprom (first (step_rows c ram eeprom) (pulse c ram eeprom (hears c.receiver wait low)))
 
--- What the answers tell: the number of a refusal, otherwise what is handed back.
-abbrev pub told_started : Started → Answer Chip
-told_started (started.Refused n) = refused n
-told_started (started.Taken c) = taken c
-
-abbrev pub told_stepped : Stepped → Answer Reply
-told_stepped (stepped.Refused n) = refused n
-told_stepped (stepped.Taken p) = taken (record { chip = p.chip; reply = told p.reply })
+-- What a step's answer tells: the number of a refusal, otherwise what is handed back.
+abbrev pub told_stepped : Result Played Refusal → Answer Reply
+told_stepped (Err r) = refused (number r)
+told_stepped (Ok p) = taken (record { chip = p.chip; reply = told p.reply })

@@ -2,15 +2,16 @@
 #![tactic(auto)]
 
 ghost use Rattle.std.specs.Prelude.{◌≡◌};
+ghost use Rattle.terms.specs.Refusals.{told};
 ghost use Rattle.phases.specs.Endings.{end_at, told_end};
-ghost use Rattle.phases.specs.Phases.{ended};
-ghost use Rattle.chip.specs.Step.{after, chip_outside, chip_start, chip_step, left, told_started, told_stepped};
+ghost use Rattle.chip.specs.Step.{after, chip_outside, chip_start, chip_step, left, told_stepped};
 
 mod work;
 
 use eeprom::{Done, Fault};
-use phases::ChipEnd;
+use phases::Ending;
 use receiver::{Received, Receiver};
+use terms::Refusal;
 use units::{Bytes, Loops, Seen};
 
 // A chip: what is wrong with its EEPROM, and how far it has listened.
@@ -20,13 +21,6 @@ pub struct Chip {
     pub receiver: Receiver,
 }
 
-// What `Chip::start` answers: a refusal by its number, or the chip before its first pulse.
-#[derive(Clone, Copy)]
-pub enum Started {
-    Refused(u8),
-    Taken(Chip),
-}
-
 // A pulse played: the chip after it, and what the line shows at the pulse's rise.
 #[derive(Clone, Copy)]
 pub struct Played {
@@ -34,99 +28,79 @@ pub struct Played {
     pub reply: Seen,
 }
 
-// What `Chip::step` answers: a refusal by its number, or the pulse that it played.
-#[derive(Clone, Copy)]
-pub enum Stepped {
-    Refused(u8),
-    Taken(Played),
-}
-
 impl Chip {
     // The chip before its first pulse, or the first of refusals 10 to 12 that applies.
-    pub fn start(ram: &[u8], eeprom: &[u8], fault: Fault) -> Started
-        ensures { told_started result ≡ chip_start ram.now eeprom.now fault }
+    #[tactic(auto, unfolding(terms::specs::Choice::when, crate::specs::Step::chip_start))]
+    pub fn start(ram: &[u8], eeprom: &[u8], fault: Fault) -> Result<Chip, Refusal>
+        ensures { told result ≡ chip_start ram.now eeprom.now fault }
     {
         if ram.len() != Bytes::MEMORY.0 {
-            return Started::Refused(10);
+            Err(Refusal::Ram)
+        } else if eeprom.len() != Bytes::MEMORY.0 {
+            Err(Refusal::Eeprom)
+        } else if fault.is_outside() {
+            Err(Refusal::Fault)
+        } else {
+            Ok(Chip {
+                fault,
+                receiver: Receiver::FRESH,
+            })
         }
-        if eeprom.len() != Bytes::MEMORY.0 {
-            return Started::Refused(11);
-        }
-        if fault.is_outside() {
-            return Started::Refused(12);
-        }
-        Started::Taken(Chip {
-            fault,
-            receiver: Receiver::FRESH,
-        })
     }
 
     // The next pulse, `wait` the high before it and `low` its own length, or a refusal: 10 or 11 for a memory that is not of its size,
     // 13 for a record out of its ranges, 14 for one that has ended. A refused step leaves both memories as they are.
-    pub fn step(mut self, ram: &mut [u8], eeprom: &mut [u8], wait: Loops, low: Loops) -> Stepped
+    pub fn step(
+        mut self,
+        ram: &mut [u8],
+        eeprom: &mut [u8],
+        wait: Loops,
+        low: Loops,
+    ) -> Result<Played, Refusal>
         ensures { left (told_stepped result) ram.new eeprom.new ≡ chip_step self ram.old eeprom.old wait.0 low.0 }
     {
         if ram.len() != Bytes::MEMORY.0 {
-            return Stepped::Refused(10);
+            return Err(Refusal::Ram);
         }
         if eeprom.len() != Bytes::MEMORY.0 {
-            return Stepped::Refused(11);
+            return Err(Refusal::Eeprom);
         }
-        if is_outside(self) {
-            return Stepped::Refused(13);
+        if self.is_outside() {
+            return Err(Refusal::Record);
         }
-        if has_ended(self) {
-            return Stepped::Refused(14);
+        if self.receiver.listener.phase.has_ended() {
+            return Err(Refusal::Ended);
         }
-        let fault = self.fault;
-        let receiver = self.receiver;
-        let received = receiver.hears(wait, low);
-        let heard = received.heard;
-        let event = heard.event;
-        let reply = heard.reply;
-        let done = work::done(fault, event, ram, eeprom);
-        self = after(received, done);
-        Stepped::Taken(Played { chip: self, reply })
+        let received = self.receiver.hears(wait, low);
+        let done = work::done(self.fault, received.heard.event, ram, eeprom);
+        self = Chip::after(received, done);
+        Ok(Played {
+            chip: self,
+            reply: received.heard.reply,
+        })
     }
 
-    // Whether the chip still listens, or how it has ended.
-    pub fn end(self) -> ChipEnd
+    // How the chip has ended; `None` while it still listens.
+    pub fn end(self) -> Option<Ending>
         ensures { told_end result ≡ end_at self.receiver.listener.phase }
     {
-        let receiver = self.receiver;
-        let listener = receiver.listener;
-        let phase = listener.phase;
-        phase.end()
+        self.receiver.listener.phase.end()
     }
-}
 
-fn is_outside(chip: Chip) -> bool
-    ensures { result ≡ chip_outside chip }
-{
-    let fault = chip.fault;
-    let receiver = chip.receiver;
-    if fault.is_outside() {
-        return true;
+    #[tactic(auto, unfolding(terms::specs::Choice::either, crate::specs::Step::chip_outside))]
+    fn is_outside(self) -> bool
+        ensures { result ≡ chip_outside self }
+    {
+        self.fault.is_outside() || self.receiver.is_outside()
     }
-    receiver.is_outside()
-}
 
-fn has_ended(chip: Chip) -> bool
-    ensures { result ≡ ended chip.receiver.listener.phase }
-{
-    let receiver = chip.receiver;
-    let listener = receiver.listener;
-    let phase = listener.phase;
-    phase.has_ended()
-}
-
-// The record after a pulse, once its work is done.
-fn after(received: Received, done: Done) -> Chip
-    ensures { result ≡ after received done.fault done.good }
-{
-    let fault = done.fault;
-    Chip {
-        fault,
-        receiver: received.settled(done.good),
+    // The record after a pulse, once its work is done.
+    fn after(received: Received, done: Done) -> Chip
+        ensures { result ≡ after received done.fault done.good }
+    {
+        Chip {
+            fault: done.fault,
+            receiver: received.settled(done.good),
+        }
     }
 }

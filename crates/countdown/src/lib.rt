@@ -18,14 +18,7 @@ const BUDGET: Loops = Loops(250_000);
 pub fn drawn(left: Loops, wait: Loops, low: Loops) -> Loops
     ensures { result.0 ≡ drawn left.0 wait.0 low.0 }
 {
-    if left.0 <= wait.0 {
-        return Loops(0);
-    }
-    let rest = left.0 - wait.0;
-    if rest <= low.0 {
-        return Loops(0);
-    }
-    Loops(rest - low.0)
+    Loops(left.0.saturating_sub(wait.0).saturating_sub(low.0))
 }
 
 // What is left before the next pulse, by the phase that a pulse was heard in and the one that it leads to.
@@ -33,68 +26,41 @@ pub fn counting(from: Phase, to: Phase, left: Loops) -> Loops
     ensures { result.0 ≡ counting from to left.0 }
 {
     match to {
-        Phase::First => left,
-        Phase::Second(_) => left,
-        Phase::Handshake(_) => left,
         Phase::Answer(_) => BUDGET,
-        Phase::Rest(_) => left,
-        Phase::Command(bits, _) => anew(bits == 0, left),
-        Phase::Size(bits, _) => anew(bits == 0, left),
+        Phase::Command(bits, _) | Phase::Size(bits, _) => anew(bits == 0, left),
         Phase::Long(bits, _, _) => anew(bits == 0, left),
         Phase::Align(_) => anew(!aligns(from), left),
-        Phase::Ended(_) => left,
+        _ => left,
     }
 }
 
+#[tactic(auto, unfolding(terms::specs::Choice::when, crate::specs::Countdown::anew))]
 fn anew(starts: bool, left: Loops) -> Loops
     ensures { result.0 ≡ anew starts left.0 }
 {
-    if starts {
-        return BUDGET;
-    }
-    left
+    if starts { BUDGET } else { left }
 }
 
 fn aligns(phase: Phase) -> bool
     ensures { result ≡ aligns phase }
 {
-    match phase {
-        Phase::First => false,
-        Phase::Second(_) => false,
-        Phase::Handshake(_) => false,
-        Phase::Answer(_) => false,
-        Phase::Rest(_) => false,
-        Phase::Command(_, _) => false,
-        Phase::Size(_, _) => false,
-        Phase::Long(_, _, _) => false,
-        Phase::Align(_) => true,
-        Phase::Ended(_) => false,
-    }
+    matches!(phase, Phase::Align(_))
 }
 
 // Whether no chip in this phase has so much left.
+#[tactic(auto, unfolding(terms::specs::Choice::either, crate::specs::Countdown::left_outside))]
 pub fn is_outside(phase: Phase, left: Loops) -> bool
     ensures { result ≡ left_outside phase left.0 }
 {
-    if left.0 == 0 {
-        return true;
-    }
-    most_left(phase).0 < left.0
+    left == Loops(0) || most_left(phase) < left
 }
 
 fn most_left(phase: Phase) -> Loops
     ensures { result.0 ≡ most_left phase }
 {
     match phase {
-        Phase::First => FIRST_BUDGET,
+        Phase::First | Phase::Handshake(_) | Phase::Ended(_) => FIRST_BUDGET,
         Phase::Second(first) => drawn(FIRST_BUDGET, Loops(0), first),
-        Phase::Handshake(_) => FIRST_BUDGET,
-        Phase::Answer(_) => BUDGET,
-        Phase::Rest(_) => BUDGET,
-        Phase::Command(_, _) => BUDGET,
-        Phase::Size(_, _) => BUDGET,
-        Phase::Long(_, _, _) => BUDGET,
-        Phase::Align(_) => BUDGET,
-        Phase::Ended(_) => FIRST_BUDGET,
+        _ => BUDGET,
     }
 }

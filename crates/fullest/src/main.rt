@@ -2,11 +2,10 @@
 // bench/chip.rs is the same program in Rust.
 #![tactic(auto)]
 
-use chip::{Chip, Played, Started, Stepped};
+use chip::{Chip, Played};
 use eeprom::Fault;
-use margins::Margin;
-use phases::{ChipEnd, Ending};
-use units::{Loops, Seen};
+use phases::Ending;
+use units::{Distance, Loops, Seen};
 
 // Its pulses, with each acknowledgement at the second pair.
 const PULSES: u32 = 262_924;
@@ -51,8 +50,8 @@ fn main() {
 
 fn play(image: &[u8; 32_760], ram: &mut [u8; 32_768], eeprom: &mut [u8; 32_768]) {
     match Chip::start(ram, eeprom, Fault::None) {
-        Started::Refused(n) => line(b"refused ", n as u64),
-        Started::Taken(chip) => {
+        Err(refusal) => line(b"refused ", u64::from(refusal.number())),
+        Ok(chip) => {
             let start = Progress {
                 chip,
                 pulses: 0,
@@ -70,29 +69,24 @@ fn play(image: &[u8; 32_760], ram: &mut [u8; 32_768], eeprom: &mut [u8; 32_768])
 
 fn print(end: Progress) {
     if end.refused != 0 {
-        line(b"refused ", end.refused as u64);
+        line(b"refused ", u64::from(end.refused));
     }
-    line(b"pulses ", end.pulses as u64);
-    line(b"zeros ", end.zeros as u64);
-    line(b"ones ", end.ones as u64);
-    let chip = end.chip;
-    match chip.end() {
-        ChipEnd::Listening => say(b"chip listening\n"),
-        ChipEnd::Ended(ending) => print_ending(ending),
+    line(b"pulses ", u64::from(end.pulses));
+    line(b"zeros ", u64::from(end.zeros));
+    line(b"ones ", u64::from(end.ones));
+    match end.chip.end() {
+        None => say(b"chip listening\n"),
+        Some(ending) => print_ending(ending),
     }
-    let receiver = chip.receiver;
-    let margins = receiver.margins;
-    let nearest = margins.nearest();
-    let one = nearest.one;
-    let zero = nearest.zero;
-    print_margin(b"nearest one ", one);
-    print_margin(b"nearest zero ", zero);
+    let nearest = end.chip.receiver.margins.nearest();
+    print_nearest(b"nearest one ", nearest.one);
+    print_nearest(b"nearest zero ", nearest.zero);
 }
 
-fn print_margin(name: &[u8], margin: Margin) {
-    match margin {
-        Margin::None => say(b"nothing read\n"),
-        Margin::At(distance) => line(name, distance.size()),
+fn print_nearest(name: &[u8], nearest: Option<Distance>) {
+    match nearest {
+        None => say(b"nothing read\n"),
+        Some(distance) => line(name, distance.size()),
     }
 }
 
@@ -122,33 +116,28 @@ fn run(
     eeprom: &mut [u8; 32_768],
 ) -> Progress {
     let mut progress = start;
-    let mut n = 0;
-    while n < PULSES {
+    for n in 0..PULSES {
         progress = one(progress, low(bit(image, n)), ram, eeprom);
-        n += 1;
     }
     progress
 }
 
 // One pulse more; a refused step is only remembered.
-fn one(mut progress: Progress, low: Loops, ram: &mut [u8], eeprom: &mut [u8]) -> Progress {
-    let chip = progress.chip;
-    match chip.step(ram, eeprom, WAIT, low) {
-        Stepped::Refused(n) => {
-            progress.refused = n as u32;
-            progress
-        }
-        Stepped::Taken(played) => counted(progress, played),
+fn one(progress: Progress, low: Loops, ram: &mut [u8], eeprom: &mut [u8]) -> Progress {
+    match progress.chip.step(ram, eeprom, WAIT, low) {
+        Err(refusal) => Progress {
+            refused: u32::from(refusal.number()),
+            ..progress
+        },
+        Ok(played) => counted(progress, played),
     }
 }
 
 fn counted(progress: Progress, played: Played) -> Progress {
-    let chip = played.chip;
-    let reply = played.reply;
-    match reply {
-        Seen::Silence => taken(progress, chip, 0, 0),
-        Seen::Zero => taken(progress, chip, 1, 0),
-        Seen::One => taken(progress, chip, 0, 1),
+    match played.reply {
+        Seen::Silence => taken(progress, played.chip, 0, 0),
+        Seen::Zero => taken(progress, played.chip, 1, 0),
+        Seen::One => taken(progress, played.chip, 0, 1),
     }
 }
 
@@ -156,9 +145,9 @@ fn counted(progress: Progress, played: Played) -> Progress {
 fn taken(progress: Progress, chip: Chip, zeros: u32, ones: u32) -> Progress {
     Progress {
         chip,
-        pulses: std::num::wrapping_add_u32(progress.pulses, 1),
-        zeros: std::num::wrapping_add_u32(progress.zeros, zeros),
-        ones: std::num::wrapping_add_u32(progress.ones, ones),
+        pulses: progress.pulses.wrapping_add(1),
+        zeros: progress.zeros.wrapping_add(zeros),
+        ones: progress.ones.wrapping_add(ones),
         refused: progress.refused,
     }
 }
@@ -179,10 +168,7 @@ fn bit(image: &[u8; 32_760], n: u32) -> bool {
 }
 
 fn image_bit(image: &[u8; 32_760], at: u32) -> bool {
-    if at < 262_080 {
-        return image[at as usize / 8] >> (at % 8) & 1 == 1;
-    }
-    false
+    at < 262_080 && image[at as usize / 8] >> (at % 8) & 1 == 1
 }
 
 fn is_first_of_pair(n: u32) -> bool {

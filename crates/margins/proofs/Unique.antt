@@ -1,10 +1,10 @@
 -- Each public call has one answer, since what it tells can be turned back. `Post` is the promise that is generated from the call's contract.
 -- Assumes nothing.
 use mathlib.Core.Path.{◌≡◌, refl, sym, ◌∙◌}
+use Rattle.std.specs.Prelude.{Option, None, Some}
 use Rattle.terms.proofs.Answers.{OneAnswer, one_told}
+use Rattle.units.specs.declared.Distance.{Distance}
 use Rattle.margins.specs.Margins.{Near, none, at, told_margin, Told, told}
-use Rattle.margins.specs.declared.Margin.{Margin}
-use Rattle.margins.specs.declared.Margin.TheVariants.{None, At}
 use Rattle.margins.specs.declared.Nearest.{Nearest}
 use Rattle.margins.proofs.Margins.is_outside.Kinds as is_outside_kinds
 use Rattle.margins.proofs.Margins.is_outside.Reads as is_outside
@@ -13,13 +13,13 @@ use Rattle.margins.proofs.Margins.nearest.Reads as nearest
 use Rattle.margins.proofs.Margins.with_pulse.Kinds as with_pulse_kinds
 use Rattle.margins.proofs.Margins.with_pulse.Reads as with_pulse_lem
 
-abbrev back_margin : Near → Margin
+abbrev back_margin : Near → Option Distance
 back_margin none = None
-back_margin (at d) = At (record { 0 = d })
+back_margin (at d) = Some (record { 0 = d })
 
-back_told_margin : (r : Margin) → back_margin (told_margin r) ≡ r
+back_told_margin : (r : Option Distance) → back_margin (told_margin r) ≡ r
 back_told_margin None = refl
-back_told_margin (At d) = refl
+back_told_margin (Some d) = refl
 
 abbrev pub back : Told → Nearest
 back t = record { one = back_margin t.one; zero = back_margin t.zero }

@@ -1,12 +1,11 @@
 -- 02, "Four": the smallest distance from the threshold on either side.
 -- Assumes nothing.
-use Rattle.std.specs.Prelude.{Bool, true, false, not, ℕ, ℤ, pos, negsuc}
+use Rattle.std.specs.Prelude.{Bool, true, false, not, ℕ, ℤ, pos, negsuc, Option, None, Some}
 use Rattle.std.specs.Int.Signed.{lt_z}
 use Rattle.terms.specs.Choice.{when, either}
+use Rattle.units.specs.declared.Distance.{Distance}
 use Rattle.phases.specs.declared.Phase.{Phase}
 use Rattle.phases.specs.declared.Phase.TheVariants.{First, Second, Handshake, Answer, Rest, Command, Size, Long, Align, Ended}
-use Rattle.margins.specs.declared.Margin.{Margin}
-use Rattle.margins.specs.declared.Margin.TheVariants.{None, At}
 use Rattle.margins.specs.declared.Margins.{Margins}
 use Rattle.margins.specs.declared.Nearest.{Nearest}
 
@@ -15,9 +14,9 @@ pub data Near : Type 0 where
   none : Near
   at : ℤ → Near
 
-abbrev pub told_margin : Margin → Near
+abbrev pub told_margin : Option Distance → Near
 told_margin None = none
-told_margin (At d) = at d.0
+told_margin (Some d) = at d.0
 
 -- Of both sides.
 pub record Told : Type 0 where

@@ -2,30 +2,43 @@
 #![tactic(auto)]
 
 ghost use Rattle.std.specs.Prelude.{◌≡◌};
-ghost use Rattle.std.specs.Int.Signed.{lt_z};
-ghost use Rattle.margins.specs.Margins.{margins_outside, nearer_one, nearer_zero, nearest, nearest_one, nearest_zero, reads_bit, told, told_margin, with_bit, with_pulse};
+ghost use Rattle.margins.specs.Margins.{margins_outside, nearest, nearest_one, nearest_zero, reads_bit, told, told_margin, with_bit, with_pulse};
 
 use line::Read;
 use phases::Phase;
+use std::fmt;
 use units::Distance;
 
-// The nearest low of one side, by its distance from the threshold; none until one was read there.
-#[derive(Clone, Copy)]
-pub enum Margin {
-    None,
-    At(Distance),
+// The nearest 1, and the nearest 0, each by its distance from the threshold; `None` until one was read there.
+#[derive(Clone, Copy, PartialEq, Eq, Debug)]
+pub struct Nearest {
+    pub one: Option<Distance>,
+    pub zero: Option<Distance>,
 }
 
-// The nearest 1, and the nearest 0.
+// How far each lies, or `none`.
+impl fmt::Display for Nearest {
+    fn fmt<W: fmt::Write>(&self, f: &mut fmt::Formatter<W>) -> fmt::Result {
+        write!(f, "{} {}", Side(self.one), Side(self.zero))
+    }
+}
+
 #[derive(Clone, Copy)]
-pub struct Nearest {
-    pub one: Margin,
-    pub zero: Margin,
+struct Side(Option<Distance>);
+
+impl fmt::Display for Side {
+    fn fmt<W: fmt::Write>(&self, f: &mut fmt::Formatter<W>) -> fmt::Result {
+        match self.0 {
+            Some(distance) => write!(f, "{}", distance.size()),
+            None => write!(f, "none"),
+        }
+    }
 }
 
 // The same as a chip keeps it: where none was read stands a distance that no low has, farther than all, so that the first low is nearer.
-// `nearest` tells.
-#[derive(Clone, Copy)]
+// `nearest` tells. With an `Option` for each side a step copies padding, and is too slow (docs/DECISIONS.md, "How a side says that it has
+// none").
+#[derive(Clone, Copy, PartialEq, Eq, Debug)]
 pub struct Margins {
     pub one: Distance,
     pub zero: Distance,
@@ -47,25 +60,41 @@ impl Margins {
     };
 
     // Whether the nearest 1 is on the side of 0, or the nearest 0 on the side of 1.
+    #[tactic(auto, unfolding(terms::specs::Choice::either, crate::specs::Margins::margins_outside))]
     pub fn is_outside(self) -> bool
         ensures { result ≡ margins_outside self }
     {
-        let one = self.one;
-        let zero = self.zero;
-        if !is_less(one, THRESHOLD) {
-            return true;
-        }
-        is_less(zero, THRESHOLD)
+        THRESHOLD <= self.one || self.zero < THRESHOLD
     }
 
     // The margins after a timely pulse, heard in a phase.
+    #[tactic(auto, unfolding(terms::specs::Choice::when, crate::specs::Margins::with_pulse))]
     pub fn with_pulse(self, phase: Phase, read: Read) -> Margins
         ensures { result ≡ with_pulse self phase read.bit read.distance.0 }
     {
         if reads_bit(phase) {
-            return with_bit(self, read);
+            self.with_bit(read)
+        } else {
+            self
         }
-        self
+    }
+
+    // A low that was read, on the side of its bit. Distances of 1s are negative: the greater is the nearer; of 0s, which are not, the lesser.
+    #[tactic(auto, unfolding(terms::specs::Choice::when))]
+    fn with_bit(self, read: Read) -> Margins
+        ensures { result ≡ with_bit self read.bit read.distance.0 }
+    {
+        if read.bit {
+            Margins {
+                one: self.one.max(read.distance),
+                ..self
+            }
+        } else {
+            Margins {
+                zero: self.zero.min(read.distance),
+                ..self
+            }
+        }
     }
 
     // The nearest low on each side.
@@ -79,82 +108,30 @@ impl Margins {
     }
 }
 
-fn nearest_one(one: Distance) -> Margin
+#[tactic(auto, unfolding(terms::specs::Choice::when, crate::specs::Margins::nearest_one))]
+fn nearest_one(one: Distance) -> Option<Distance>
     ensures { told_margin result ≡ nearest_one one.0 }
 {
-    if is_less(NO_ONE, one) {
-        return Margin::At(one);
-    }
-    Margin::None
+    (NO_ONE < one).then_some(one)
 }
 
-fn nearest_zero(zero: Distance) -> Margin
+#[tactic(auto, unfolding(terms::specs::Choice::when, crate::specs::Margins::nearest_zero))]
+fn nearest_zero(zero: Distance) -> Option<Distance>
     ensures { told_margin result ≡ nearest_zero zero.0 }
 {
-    if is_less(zero, NO_ZERO) {
-        return Margin::At(zero);
-    }
-    Margin::None
+    (zero < NO_ZERO).then_some(zero)
 }
 
 // Whether a timely pulse is read as a bit: calibration lows and a reply's pulses are not.
 fn reads_bit(phase: Phase) -> bool
     ensures { result ≡ reads_bit phase }
 {
-    match phase {
-        Phase::First => false,
-        Phase::Second(_) => false,
-        Phase::Handshake(_) => true,
-        Phase::Answer(_) => false,
-        Phase::Rest(_) => false,
-        Phase::Command(_, _) => true,
-        Phase::Size(_, _) => true,
-        Phase::Long(_, _, _) => true,
-        Phase::Align(_) => true,
-        Phase::Ended(_) => false,
-    }
-}
-
-fn with_bit(margins: Margins, read: Read) -> Margins
-    ensures { result ≡ with_bit margins read.bit read.distance.0 }
-{
-    let one = margins.one;
-    let zero = margins.zero;
-    let distance = read.distance;
-    if read.bit {
-        return Margins {
-            one: nearer_one(one, distance),
-            zero,
-        };
-    }
-    Margins {
-        one,
-        zero: nearer_zero(zero, distance),
-    }
-}
-
-// Distances of 1s are negative: the greater is the nearer.
-fn nearer_one(near: Distance, distance: Distance) -> Distance
-    ensures { result.0 ≡ nearer_one near.0 distance.0 }
-{
-    if is_less(near, distance) {
-        return distance;
-    }
-    near
-}
-
-// Of 0s, which are not, the lesser.
-fn nearer_zero(near: Distance, distance: Distance) -> Distance
-    ensures { result.0 ≡ nearer_zero near.0 distance.0 }
-{
-    if is_less(distance, near) {
-        return distance;
-    }
-    near
-}
-
-fn is_less(a: Distance, b: Distance) -> bool
-    ensures { result ≡ lt_z a.0 b.0 }
-{
-    a.0 < b.0
+    matches!(
+        phase,
+        Phase::Handshake(_)
+            | Phase::Command(_, _)
+            | Phase::Size(_, _)
+            | Phase::Long(_, _, _)
+            | Phase::Align(_)
+    )
 }

@@ -2,28 +2,27 @@
 -- Assumes nothing.
 use mathlib.Core.Bool.{Bool, true, false}
 use mathlib.Core.Path.{◌≡◌, refl, sym, ap, ◌∙◌}
+use Rattle.std.specs.Prelude.{Option, None, Some}
 use Rattle.phases.specs.Endings.{End, listening, launched_from_download, launched_from_eeprom, shut_down, off_chart, name, end_at, told_end}
 use Rattle.phases.specs.Phases.{ended}
-use Rattle.phases.specs.declared.ChipEnd.{ChipEnd}
-use Rattle.phases.specs.declared.ChipEnd.TheVariants as chip
 use Rattle.phases.specs.declared.Ending.{Ending}
 use Rattle.phases.specs.declared.Ending.TheVariants.{Launched, Booted, Shut, Off}
 use Rattle.phases.specs.declared.Phase.{Phase}
 use Rattle.phases.specs.declared.Phase.TheVariants.{First, Second, Handshake, Answer, Rest, Command, Size, Long, Align, Ended}
 
-abbrev pub back_end : End → ChipEnd
-back_end listening = chip.Listening
-back_end launched_from_download = chip.Ended Launched
-back_end launched_from_eeprom = chip.Ended Booted
-back_end shut_down = chip.Ended Shut
-back_end off_chart = chip.Ended Off
+abbrev pub back_end : End → Option Ending
+back_end listening = None
+back_end launched_from_download = Some Launched
+back_end launched_from_eeprom = Some Booted
+back_end shut_down = Some Shut
+back_end off_chart = Some Off
 
-pub back_told_end : (r : ChipEnd) → back_end (told_end r) ≡ r
-back_told_end chip.Listening = refl
-back_told_end (chip.Ended Launched) = refl
-back_told_end (chip.Ended Booted) = refl
-back_told_end (chip.Ended Shut) = refl
-back_told_end (chip.Ended Off) = refl
+pub back_told_end : (r : Option Ending) → back_end (told_end r) ≡ r
+back_told_end None = refl
+back_told_end (Some Launched) = refl
+back_told_end (Some Booted) = refl
+back_told_end (Some Shut) = refl
+back_told_end (Some Off) = refl
 
 -- It has ended.
 abbrev pub over : End → Bool
@@ -52,9 +51,9 @@ over_at (Align a) = refl
 over_at (Ended e) = over_name e
 
 -- What an answer says of the phase that it was asked of.
-module _ (r : ChipEnd) (p : Phase) (asked : told_end r ≡ end_at p) where
-  pub listens : r ≡ chip.Listening → ended p ≡ false
-  listens e = sym (over_at p) ∙ ap over (sym asked) ∙ ap (λ (x : ChipEnd). over (told_end x)) e
+module _ (r : Option Ending) (p : Phase) (asked : told_end r ≡ end_at p) where
+  pub listens : r ≡ None → ended p ≡ false
+  listens e = sym (over_at p) ∙ ap over (sym asked) ∙ ap (λ (x : Option Ending). over (told_end x)) e
 
-  pub has_ended : (e : Ending) → r ≡ chip.Ended e → ended p ≡ true
-  has_ended e q = sym (over_at p) ∙ ap over (sym asked) ∙ ap (λ (x : ChipEnd). over (told_end x)) q ∙ over_name e
+  pub has_ended : (e : Ending) → r ≡ Some e → ended p ≡ true
+  has_ended e q = sym (over_at p) ∙ ap over (sym asked) ∙ ap (λ (x : Option Ending). over (told_end x)) q ∙ over_name e

@@ -1,7 +1,6 @@
 -- 01, "What the chip does": "Endings: launched from download, launched from EEPROM, shut down, off chart"; and a chip that still listens.
 -- Assumes nothing.
-use Rattle.phases.specs.declared.ChipEnd.{ChipEnd}
-use Rattle.phases.specs.declared.ChipEnd.TheVariants as chip
+use Rattle.std.specs.Prelude.{Option, None, Some}
 use Rattle.phases.specs.declared.Ending.{Ending}
 use Rattle.phases.specs.declared.Ending.TheVariants.{Launched, Booted, Shut, Off}
 use Rattle.phases.specs.declared.Phase.{Phase}
@@ -35,6 +34,6 @@ end_at (at.Align a) = listening
 end_at (at.Ended e) = name e
 
 -- What the answer tells.
-abbrev pub told_end : ChipEnd → End
-told_end chip.Listening = listening
-told_end (chip.Ended e) = name e
+abbrev pub told_end : Option Ending → End
+told_end None = listening
+told_end (Some e) = name e

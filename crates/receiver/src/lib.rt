@@ -14,7 +14,7 @@ use phases::Phase;
 use units::Loops;
 
 // A chip that listens, what is left of its countdown, and its margins.
-#[derive(Clone, Copy)]
+#[derive(Clone, Copy, PartialEq, Eq, Debug)]
 pub struct Receiver {
     pub listener: Listener,
     pub left: Loops,
@@ -22,7 +22,7 @@ pub struct Receiver {
 }
 
 // What a pulse leads to, late or read, what is then left, and the margins with it.
-#[derive(Clone, Copy)]
+#[derive(Clone, Copy, PartialEq, Eq, Debug)]
 pub struct Received {
     pub heard: Heard,
     pub left: Loops,
@@ -38,36 +38,33 @@ impl Receiver {
     };
 
     // Whether some field lies outside its range.
+    #[tactic(auto, unfolding(terms::specs::Choice::either, crate::specs::Ranges::receiver_outside))]
     pub fn is_outside(self) -> bool
         ensures { result ≡ receiver_outside self }
     {
-        let listener = self.listener;
-        let phase = listener.phase;
-        let margins = self.margins;
-        if listener.is_outside() {
-            return true;
-        }
-        if countdown::is_outside(phase, self.left) {
-            return true;
-        }
-        margins.is_outside()
+        self.listener.is_outside()
+            || countdown::is_outside(self.listener.phase, self.left)
+            || self.margins.is_outside()
     }
 
     // What a pulse leads to: `wait` is the high before it, `low` its own length. A chip that has ended stays so.
+    #[tactic(auto, using(countdown::proofs::Late::late_drawn), unfolding(terms::specs::Choice::when, crate::specs::Hears::hears))]
     pub fn hears(self, wait: Loops, low: Loops) -> Received
         ensures { result ≡ hears self wait.0 low.0 }
     {
-        let listener = self.listener;
-        let left = self.left;
-        let margins = self.margins;
-        let from = listener.phase;
-        let rest = countdown::drawn(left, wait, low);
-        if rest.0 == 0 {
-            return counted(late::timed_out(listener), from, left, margins);
+        let phase = self.listener.phase;
+        let left = countdown::drawn(self.left, wait, low);
+        if left == Loops(0) {
+            return counted(
+                late::timed_out(self.listener),
+                phase,
+                self.left,
+                self.margins,
+            );
         }
-        let read = line::reads(listener.threshold, low);
-        let kept = margins.with_pulse(from, read);
-        counted(listener.hears(low, read.bit), from, rest, kept)
+        let read = line::reads(self.listener.threshold, low);
+        let margins = self.margins.with_pulse(phase, read);
+        counted(self.listener.hears(low, read.bit), phase, left, margins)
     }
 }
 
@@ -76,13 +73,10 @@ impl Received {
     pub fn settled(self, good: bool) -> Receiver
         ensures { result ≡ settled self good }
     {
-        let heard = self.heard;
-        let left = self.left;
-        let margins = self.margins;
         Receiver {
-            listener: heard.settled(good),
-            left,
-            margins,
+            listener: self.heard.settled(good),
+            left: self.left,
+            margins: self.margins,
         }
     }
 }
@@ -90,11 +84,9 @@ impl Received {
 fn counted(heard: Heard, from: Phase, left: Loops, margins: Margins) -> Received
     ensures { result ≡ counted heard from left.0 margins }
 {
-    let listener = heard.listener;
-    let to = listener.phase;
     Received {
         heard,
-        left: countdown::counting(from, to, left),
+        left: countdown::counting(from, heard.listener.phase, left),
         margins,
     }
 }
