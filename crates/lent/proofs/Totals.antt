@@ -1,6 +1,6 @@
--- Laws of the sum of bytes. `Added`: what a loop that adds byte after byte, modulo m, has at each turn.
+-- Laws of the sum of bytes.
 -- Assumes nothing.
-use Rattle.std.proofs.Common.{◌≡◌, ℕ, zero, suc, ◌+◌, ◌%◌, ◌<◌, ◌≤◌, List, [], ◌∷◌, ◌++◌, length, get_or, take, replicate, sym, refl, ap, ◌∙◌, add-zero, add_assoc, zero-add, add-one, arith, take_all, take-suc}
+use Rattle.std.proofs.Common.{◌≡◌, ℕ, zero, suc, ◌+◌, ◌%◌, List, [], ◌∷◌, ◌++◌, fold, replicate, sym, refl, ap, ◌∙◌, add-zero, add_assoc, zero-add}
 use native.Mathlib.Nat.{zero-mod, mod-add-mod}
 use Rattle.lent.specs.Bytes.{total}
 
@@ -14,26 +14,14 @@ unfolding total
 total_zeros zero = refl
 total_zeros (suc n) = zero-add _ ∙ total_zeros n
 
--- The sum up to the next place is the sum up to a place and the byte there.
-total_take : (bytes : List ℕ) (at : ℕ) → at < length bytes → total (take (at + 1) bytes) ≡ total (take at bytes) + get_or bytes at 0
+-- Byte after byte added, modulo m, to a number.
+added : (m a : ℕ) (bytes : List ℕ) → fold (λ sum byte. (sum + byte) % m) (a % m) bytes ≡ (a + total bytes) % m
 unfolding total
-total_take bytes at h =
-    rw (add-one, take-suc bytes at 0 h)
-    (total_append (take at bytes) (get_or bytes at 0 ∷ []) ∙ ap (λ (b : ℕ). total (take at bytes) + b) (add-zero (get_or bytes at 0)))
+added m a [] = rw add-zero refl
+added m a (x ∷ bytes) =
+    rw (mod-add-mod a m x) (added m (a + x) bytes ∙ ap (λ n. n % m) (add_assoc a x (total bytes)))
 
-module _ (m : ℕ) (bytes : List ℕ) where
-  -- The sum of the bytes before a place.
-  abbrev pub Added : ℕ → ℕ → Type 0
-  Added at sum = (at ≤ length bytes) × (sum ≡ total (take at bytes) % m)
-
-  pub added_none : Added 0 0
-  unfolding total
-  added_none = (omega arith, sym (zero-mod m))
-
-  module _ (at sum : ℕ) (a : Added at sum) where
-    pub added_one : (next : ℕ) → at < length bytes → next ≡ (sum + get_or bytes at 0) % m → Added (at + 1) next
-    added_one next h e =
-        (omega arith, rw (e, a.1, total_take bytes at h) (mod-add-mod (total (take at bytes)) m (get_or bytes at 0)))
-
-    pub added_all : length bytes ≤ at → sum ≡ total bytes % m
-    added_all h = rw (take_all at bytes h) at a.1
+pub added_all : (m : ℕ) (bytes : List ℕ) → fold (λ sum byte. (sum + byte) % m) 0 bytes ≡ total bytes % m
+added_all m bytes =
+    let e = added m 0 bytes in
+    rw (zero-mod, zero-add) at e

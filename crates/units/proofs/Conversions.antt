@@ -3,10 +3,12 @@
 -- Assumes nothing.
 use mathlib.Core.Bool.{Bool, true, false}
 use mathlib.Core.Path.{◌≡◌, refl}
-use Prim.Native.Nat.{ℕ, ◌*◌, ◌/◌, ◌%◌, ◌≤◌, ◌<◌, min}
+use Prim.Native.Nat.{ℕ, ◌*◌, ◌/◌, ◌%◌, ◌≤◌, ◌<◌, ◌^◌, ◌-◌, min}
 use native.Mathlib.Nat.{le-div_iff_mul-le, mul-zero}
 use native.Mathlib.Omega.{arith}
 use lib.Dec.{eqb}
+use mathlib.Core.Logic.{inl, inr}
+use Rattle.std.proofs.lemmas.Bool.{cases_lt}
 use borrow.Author.Tests.{eq-eqb, ne_eqb, eqb-true, eqb-false}
 use Rattle.terms.proofs.Tests.{when_true, when_false}
 use Rattle.units.specs.Units.{most, longs_in, bytes_in, loops_in}
@@ -39,6 +41,19 @@ module _ (ticks p l : ℕ) where
 
   pub loops_largest : (c : ℕ) → c ≤ most → c * l ≤ ticks * p → c ≤ loops_in ticks p l
   loops_largest = largest_at (eqb l 0) refl
+
+-- What stands for all that 64 bits don't hold is more loops than 32 bits hold, too.
+pub loops_capped : (n l : ℕ) → (l ≡ 0 → ⊥) → l < 2 ^ 32 → min (min n (2 ^ 64 - 1) / l) most ≡ min (n / l) most
+loops_capped n l z h =
+    let p : 0 < l = omega arith in
+    elim (cases_lt n (2 ^ 64)) [
+      | inl s ↦ let e : min n (2 ^ 64 - 1) ≡ n = omega arith in rw e
+      | inr s ↦
+          let e : min n (2 ^ 64 - 1) ≡ 2 ^ 64 - 1 = omega arith in
+          let m : most ≤ (2 ^ 64 - 1) / l = (le-div_iff_mul-le {k = l} p).1 (omega arith) in
+          let k : most ≤ n / l = (le-div_iff_mul-le {k = l} p).1 (omega arith) in
+          rw e (omega arith)
+    ]
 
 pub longs_of_bytes : (longs : ℕ) → longs ≤ most → longs_in (bytes_in longs) ≡ longs
 longs_of_bytes longs h = omega arith

@@ -1,14 +1,11 @@
--- The difference of two counts: what it is where the one is less and where it is not, and that 64 bits hold it.
+-- The difference of two counts: what it is where the one is less and where it is not.
 -- Assumes nothing.
 use mathlib.Core.Bool.{Bool, true, false}
-use mathlib.Core.Path.{◌≡◌, refl, sym, ap, subst, ◌∙◌}
-use Prim.Native.Nat.{ℕ, zero, suc, ◌-◌, ◌^◌, ◌≤◌, ◌<◌}
+use mathlib.Core.Path.{◌≡◌, refl, sym, ap, subst}
+use Prim.Native.Nat.{ℕ, zero, suc, ◌-◌, ◌≤◌, ◌<◌}
 use native.Mathlib.Omega.{arith}
 use lib.Dec.{ltb}
-use lib.IntN.{ℤ, pos, negsuc, ◌-ℤ◌}
-use mir.Syntax.{w32, w64}
-use mir.Val.{Fits, SFits, to_z, of_z}
-use mir.Facts.{to_z_pos, to_z-of_z}
+use lib.IntN.{ℤ, pos, negsuc}
 use borrow.Author.Tests.{ltb-true, ltb-false, lt-ltb, le-ltb}
 use Rattle.units.specs.Units.{difference}
 
@@ -35,23 +32,3 @@ module _ (a b : ℕ) where
 
     pub difference_elim : P (ltb a b) (difference a b)
     difference_elim = by_test (ltb a b) refl
-
-  module _ (fa : Fits w32 a) (fb : Fits w32 b) where
-    as_read : to_z w64 a -ℤ to_z w64 b ≡ difference a b
-    unfolding difference
-    as_read =
-        let x : a < 2 ^ 63 = omega (arith, fa.fits) in
-        let y : b < 2 ^ 63 = omega (arith, fb.fits) in
-        rw (to_z_pos w64 x, to_z_pos w64 y) refl
-
-    within : SFits w64 (difference a b)
-    within =
-        let x = fa.fits in
-        let y = fb.fits in
-        difference_elim (λ (t : Bool) (z : ℤ). SFits w64 z) (λ e. record { sfits = omega (arith, x, y) }) (λ e. record { sfits = omega (arith, x, y) })
-
-    pub difference_fits : SFits w64 (to_z w64 a -ℤ to_z w64 b)
-    difference_fits = subst (SFits w64) (sym as_read) within
-
-    pub difference_exact : to_z w64 (of_z w64 (to_z w64 a -ℤ to_z w64 b)) ≡ difference a b
-    difference_exact = to_z-of_z difference_fits ∙ as_read

@@ -6,27 +6,27 @@ ghost use Rattle.std.specs.Prelude.{◌≡◌, min, nat_abs};
 ghost use Rattle.units.specs.Units.{most, longs_in, bytes_in, end_of, loops_of, loops_in, difference};
 
 // Ticks of the bench's clock.
-#[derive(Clone, Copy)]
+#[derive(Clone, Copy, PartialEq, Eq, PartialOrd, Ord, Debug)]
 pub struct Ticks(pub u64);
 
 // Loops of the chip's wait for an edge: the ROM counts them in 32 bits.
-#[derive(Clone, Copy)]
+#[derive(Clone, Copy, PartialEq, Eq, PartialOrd, Ord, Debug)]
 pub struct Loops(pub u32);
 
 // A count of loops less another. 64 bits hold it for any two counts.
-#[derive(Clone, Copy)]
+#[derive(Clone, Copy, PartialEq, Eq, PartialOrd, Ord, Debug)]
 pub struct Distance(pub i64);
 
 // Bytes of an image or of a memory.
-#[derive(Clone, Copy)]
+#[derive(Clone, Copy, PartialEq, Eq, PartialOrd, Ord, Debug)]
 pub struct Bytes(pub usize);
 
 // Longs of four bytes: the ROM takes their number in 32 bits.
-#[derive(Clone, Copy)]
+#[derive(Clone, Copy, PartialEq, Eq, PartialOrd, Ord, Debug)]
 pub struct Longs(pub u32);
 
 // What the host sees around a pulse, and what the chip replies at its rise.
-#[derive(Clone, Copy)]
+#[derive(Clone, Copy, PartialEq, Eq, Debug)]
 pub enum Seen {
     Silence,
     Zero,
@@ -45,7 +45,7 @@ impl Bytes {
     pub fn to_longs(self) -> Longs
         ensures { result.0 ≡ longs_in self.0 }
     {
-        Longs(counted(self.0 as u64 / 4))
+        Longs(u32::try_from(self.0 / 4).unwrap_or(u32::MAX))
     }
 }
 
@@ -70,58 +70,37 @@ impl Loops {
     pub fn of(n: u64) -> Loops
         ensures { result.0 ≡ loops_of n }
     {
-        Loops(counted(n))
+        Loops(u32::try_from(n).unwrap_or(u32::MAX))
     }
 
     // These loops less others: negative where they are fewer.
+    #[tactic(auto, unfolding(crate::specs::Units::difference))]
     pub fn minus(self, others: Loops) -> Distance
         ensures { result.0 ≡ difference self.0 others.0 }
     {
-        let distance = self.0 as i64 - others.0 as i64;
-        Distance(distance)
+        Distance(i64::from(self.0) - i64::from(others.0))
     }
 }
 
 impl Distance {
-    // How far it is, without its sign. A negative one is taken from -1, since no 64 bits hold the least one's opposite.
+    // How far it is, without its sign.
     pub fn size(self) -> u64
         ensures { result ≡ nat_abs self.0 }
     {
-        if self.0 < 0 {
-            return (-1 - self.0) as u64 + 1;
-        }
-        self.0 as u64
+        self.0.unsigned_abs()
     }
 }
 
 impl Ticks {
     // The whole loops of `l` ps in these ticks of `p` ps: the largest count, up to `u32::MAX`, that lasts no longer than they do.
     // Loops that last no time (`l` is 0) never outlast them, so that they count `u32::MAX`.
+    #[tactic(auto, using(crate::proofs::Conversions::no_length, crate::proofs::Conversions::some_length, crate::proofs::Conversions::loops_capped))]
     pub fn to_loops(self, p: u32, l: u32) -> Loops
         ensures { result.0 ≡ loops_in self.0 p l }
     {
         if l == 0 {
             return Loops(u32::MAX);
         }
-        if p == 0 {
-            return Loops(0);
-        }
-        let ticks = self.0;
-        if ticks <= u64::MAX / (p as u64) {
-            Loops(counted(ticks * (p as u64) / (l as u64)))
-        } else {
-            Loops(u32::MAX)
-        }
-    }
-}
-
-// A count as 32 bits hold it: `u32::MAX` stands for every larger one.
-fn counted(n: u64) -> u32
-    ensures { result ≡ min n most }
-{
-    if n <= u32::MAX as u64 {
-        n as u32
-    } else {
-        u32::MAX
+        Loops::of(self.0.saturating_mul(u64::from(p)) / u64::from(l))
     }
 }
