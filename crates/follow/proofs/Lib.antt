@@ -1,3 +1,2 @@
 pub mod Stands
 pub mod Unique
-pub mod Unseen

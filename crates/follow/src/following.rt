@@ -1,8 +1,7 @@
 // What follows a pulse, phase by phase.
 ghost use Rattle.std.specs.Prelude.{◌≡◌};
-ghost use Rattle.follow.specs.Follow.{after, after_command, after_connection, after_good, after_pair, bad};
-ghost use Rattle.follow.specs.Follow.{after_ram, after_version, after_version_pair, after_wait_pair, ends_silent};
-ghost use Rattle.follow.specs.Follow.{is_silence, onward, opened, shows};
+ghost use Rattle.follow.specs.Follow.{after, after_good, after_pair, bad, onward, opened, shows};
+ghost use Rattle.place.specs.declared.Phase.TheVariants.{Version};
 
 use load::Load;
 use place::{Acknowledgement, Ending, Phase, Place};
@@ -14,34 +13,45 @@ const GOOD_VERSION: u8 = 1;
 const VERSION_TOP: u8 = 128;
 
 // The second pulse of a pair.
-pub(crate) fn after_pair(load: Load, phase: Phase, index: u32, seen: Seen) -> Place
-    ensures { result ≡ after_pair load phase index seen }
+#[tactic(auto, using(terms::proofs::Refusals::walk), unfolding(crate::specs::Follow::after_connection))]
+pub(crate) fn after_pair(place: Place, load: Load, seen: Seen) -> Place
+    ensures { result ≡ after_pair load place.phase place.index seen }
 {
-    match phase {
-        Phase::Calibration => onward(load, phase, index),
-        Phase::Handshake => onward(load, phase, index),
-        Phase::Connection => after_connection(load, index, seen),
-        Phase::Version(version) => after_version_pair(load, version, index, seen),
-        Phase::Command => onward(load, phase, index),
-        Phase::Zeros => onward(load, phase, index),
-        Phase::Size => onward(load, phase, index),
-        Phase::Image => onward(load, phase, index),
-        Phase::Wait(awaited) => after_wait_pair(load, awaited, index, seen),
-        Phase::Ended(_) => onward(load, phase, index),
+    match place.phase {
+        Phase::Connection => {
+            let draw = sequence::draw(sequence::FIRST_CONNECTION_DRAW + place.index / 2);
+            if shows(seen, draw) {
+                onward(place, load)
+            } else {
+                opened(Phase::Ended(Ending::Lost))
+            }
+        }
+        Phase::Version(version) => match seen {
+            Seen::Silence => opened(Phase::Ended(Ending::Lost)),
+            Seen::Zero => onward(with_version(place, version >> 1), load),
+            Seen::One => onward(with_version(place, version >> 1 | VERSION_TOP), load),
+        },
+        Phase::Wait(awaited) => match seen {
+            Seen::Silence => onward(place, load),
+            Seen::Zero => opened(after_good(load.command, awaited)),
+            Seen::One => opened(Phase::Ended(bad(awaited))),
+        },
+        _ => onward(place, load),
     }
 }
 
-pub(crate) fn onward(load: Load, phase: Phase, index: u32) -> Place
-    ensures { result ≡ onward load phase index }
+// The phase's next place, or after its last the first of what follows.
+#[tactic(auto, using(terms::proofs::Refusals::walk), unfolding(crate::specs::Follow::onward))]
+pub(crate) fn onward(place: Place, load: Load) -> Place
+    ensures { result ≡ onward load place.phase place.index }
 {
-    let places = phase.places(load);
-    if index as u64 + 1 < places as u64 {
+    if u64::from(place.index) + 1 < u64::from(place.phase.places(load)) {
         return Place {
-            phase,
-            index: index + 1,
+            index: place.index + 1,
+            ..place
         };
     }
-    opened(after(load, phase))
+    opened(after(load, place.phase))
 }
 
 fn opened(phase: Phase) -> Place
@@ -50,6 +60,7 @@ fn opened(phase: Phase) -> Place
     Place { phase, index: 0 }
 }
 
+#[tactic(auto, using(terms::proofs::Refusals::walk), unfolding(crate::specs::Follow::after_version, crate::specs::Follow::after_command))]
 fn after(load: Load, phase: Phase) -> Phase
     ensures { result ≡ after load phase }
 {
@@ -57,93 +68,43 @@ fn after(load: Load, phase: Phase) -> Phase
         Phase::Calibration => Phase::Handshake,
         Phase::Handshake => Phase::Connection,
         Phase::Connection => Phase::Version(0),
-        Phase::Version(version) => after_version(version),
-        Phase::Command => after_command(load.command),
+        Phase::Version(GOOD_VERSION) => Phase::Command,
+        Phase::Version(_) => Phase::Zeros,
+        Phase::Command if load.command == 0 => Phase::Ended(Ending::Done),
+        Phase::Command => Phase::Size,
         Phase::Zeros => Phase::Ended(Ending::WrongVersion),
         Phase::Size => Phase::Image,
         Phase::Image => Phase::Wait(Acknowledgement::Ram),
         Phase::Wait(_) => Phase::Ended(Ending::Lost),
-        Phase::Ended(ending) => Phase::Ended(ending),
+        Phase::Ended(_) => phase,
     }
-}
-
-fn after_version(version: u8) -> Phase
-    ensures { result ≡ after_version version }
-{
-    if version == GOOD_VERSION {
-        return Phase::Command;
-    }
-    Phase::Zeros
-}
-
-fn after_command(command: u32) -> Phase
-    ensures { result ≡ after_command command }
-{
-    if command == 0 {
-        return Phase::Ended(Ending::Done);
-    }
-    Phase::Size
-}
-
-fn after_connection(load: Load, index: u32, seen: Seen) -> Place
-    ensures { result ≡ after_connection load index seen }
-{
-    if shows(
-        seen,
-        sequence::draw(sequence::FIRST_CONNECTION_DRAW + index / 2),
-    ) {
-        return onward(load, Phase::Connection, index);
-    }
-    opened(Phase::Ended(Ending::Lost))
 }
 
 fn shows(seen: Seen, bit: bool) -> bool
     ensures { result ≡ shows seen bit }
 {
-    match seen {
-        Seen::Silence => false,
-        Seen::Zero => !bit,
-        Seen::One => bit,
-    }
+    seen == if bit { Seen::One } else { Seen::Zero }
 }
 
-fn after_version_pair(load: Load, version: u8, index: u32, seen: Seen) -> Place
-    ensures { result ≡ after_version_pair load version index seen }
+fn with_version(place: Place, version: u8) -> Place
+    ensures { result ≡ record { phase = Version version; index = place.index } }
 {
-    match seen {
-        Seen::Silence => opened(Phase::Ended(Ending::Lost)),
-        Seen::Zero => onward(load, Phase::Version(version >> 1), index),
-        Seen::One => onward(load, Phase::Version(version >> 1 | VERSION_TOP), index),
+    Place {
+        phase: Phase::Version(version),
+        ..place
     }
 }
 
-fn after_wait_pair(load: Load, awaited: Acknowledgement, index: u32, seen: Seen) -> Place
-    ensures { result ≡ after_wait_pair load awaited index seen }
-{
-    match seen {
-        Seen::Silence => onward(load, Phase::Wait(awaited), index),
-        Seen::Zero => opened(after_good(load.command, awaited)),
-        Seen::One => opened(Phase::Ended(bad(awaited))),
-    }
-}
-
+#[tactic(auto, using(terms::proofs::Refusals::walk), unfolding(crate::specs::Follow::after_ram))]
 fn after_good(command: u32, awaited: Acknowledgement) -> Phase
     ensures { result ≡ after_good command awaited }
 {
     match awaited {
-        Acknowledgement::Ram => after_ram(command),
+        Acknowledgement::Ram if command == 1 => Phase::Ended(Ending::Done),
+        Acknowledgement::Ram => Phase::Wait(Acknowledgement::Programming),
         Acknowledgement::Programming => Phase::Wait(Acknowledgement::Verification),
         Acknowledgement::Verification => Phase::Ended(Ending::Done),
     }
-}
-
-fn after_ram(command: u32) -> Phase
-    ensures { result ≡ after_ram command }
-{
-    if command == 1 {
-        return Phase::Ended(Ending::Done);
-    }
-    Phase::Wait(Acknowledgement::Programming)
 }
 
 fn bad(awaited: Acknowledgement) -> Ending
@@ -153,24 +114,5 @@ fn bad(awaited: Acknowledgement) -> Ending
         Acknowledgement::Ram => Ending::BadRam,
         Acknowledgement::Programming => Ending::BadProgramming,
         Acknowledgement::Verification => Ending::BadVerification,
-    }
-}
-
-pub(crate) fn ends_silent(index: u32, seen: Seen) -> bool
-    ensures { result ≡ ends_silent index seen }
-{
-    if bits::pair_bit(index) {
-        return false;
-    }
-    is_silence(seen)
-}
-
-fn is_silence(seen: Seen) -> bool
-    ensures { result ≡ is_silence seen }
-{
-    match seen {
-        Seen::Silence => true,
-        Seen::Zero => false,
-        Seen::One => false,
     }
 }

@@ -6,18 +6,14 @@ use Prim.Native.Nat.{ℕ}
 use Rattle.terms.specs.Refusals.{refused, taken, first}
 use Rattle.terms.proofs.Refusals.{refused_before, taken_before, refused_alike, taken_alike, clear_both, clear_taken, taken_exactly}
 use Rattle.load.specs.Load.{load_rows, load_of, accepted}
-use Rattle.settings.specs.Settings.{settings_rows, checked, told_checked}
-use Rattle.settings.specs.declared.Checked.{Checked}
-use Rattle.settings.specs.declared.Checked.TheVariants as settings
+use Rattle.settings.specs.Settings.{settings_rows, checked}
 use Rattle.settings.specs.declared.Settings.{Settings}
 use Rattle.settings.proofs.Exactly.{Fit, settings_taken}
 use Rattle.load.proofs.Exactly.{load_taken}
 use Rattle.load.proofs.Facts.{Known}
-use Rattle.session.specs.Step.{session_start, told_started}
+use Rattle.session.specs.Step.{session_start}
 use Rattle.session.specs.Step as session
 use Rattle.session.specs.declared.Session.{Session}
-use Rattle.session.specs.declared.Started.{Started}
-use Rattle.session.specs.declared.Started.TheVariants as started
 use Rattle.host.specs.Step.{fresh, host_start}
 use Rattle.host.specs.declared.Host.{Host}
 
@@ -29,29 +25,24 @@ module _ (t h p command : ℕ) (image : List ℕ) where
   whole = session.fresh (load_of command image)
 
   -- The settings refuse.
-  pub settings_refuse : (r : Checked) (n : ℕ) → r ≡ settings.Refused n → told_checked r ≡ checked t h p
-      → refused n ≡ host_start t h p command image
+  pub settings_refuse : (n : ℕ) → refused n ≡ checked t h p → refused n ≡ host_start t h p command image
   unfolding checked host_start
-  settings_refuse r n e q =
-      sym (refused_before (load_rows command image) given (fresh given whole) n (settings_rows t h p) (sym q ∙ ap told_checked e))
+  settings_refuse n q = sym (refused_before (load_rows command image) given (fresh given whole) n (settings_rows t h p) (sym q))
 
   -- They are taken: the session decides.
-  module _ (r : Checked) (s : Settings) (e : r ≡ settings.Taken s) (q : told_checked r ≡ checked t h p) where
+  module _ (s : Settings) (q : taken s ≡ checked t h p) where
     past_settings : (host_start t h p command image ≡ first (load_rows command image) (fresh given whole)) × (s ≡ given)
     unfolding checked host_start
-    past_settings = taken_before (load_rows command image) given (fresh given whole) s (settings_rows t h p) (sym q ∙ ap told_checked e)
+    past_settings = taken_before (load_rows command image) given (fresh given whole) s (settings_rows t h p) (sym q)
 
-    pub session_refuses : (u : Started) (n : ℕ) → u ≡ started.Refused n → told_started u ≡ session_start command image
-        → refused n ≡ host_start t h p command image
+    pub session_refuses : (n : ℕ) → refused n ≡ session_start command image → refused n ≡ host_start t h p command image
     unfolding session_start
-    session_refuses u n d w =
-        sym (past_settings.0 ∙ refused_alike (load_rows command image) whole (fresh given whole) n (sym w ∙ ap told_started d))
+    session_refuses n w = sym (past_settings.0 ∙ refused_alike (load_rows command image) whole (fresh given whole) n (sym w))
 
-    pub both_take : (u : Started) (x : Session) → u ≡ started.Taken x → told_started u ≡ session_start command image
-        → taken (fresh s x) ≡ host_start t h p command image
+    pub both_take : (x : Session) → taken x ≡ session_start command image → taken (fresh s x) ≡ host_start t h p command image
     unfolding session_start
-    both_take u x d w =
-        let opened = taken_alike (load_rows command image) whole (fresh given whole) x (sym w ∙ ap told_started d) in
+    both_take x w =
+        let opened = taken_alike (load_rows command image) whole (fresh given whole) x (sym w) in
         ap (λ (y : Settings). taken (fresh y x)) past_settings.1
         ∙ ap (λ (y : Session). taken (fresh given y)) opened.1
         ∙ sym (past_settings.0 ∙ opened.0)

@@ -17,16 +17,15 @@ use Rattle.session.specs.Step.{step_rows, pulse_of, session_step}
 use Rattle.session.specs.declared.Pulse.{Pulse}
 use Rattle.session.proofs.Within.{pulses_most}
 use Rattle.place.specs.declared.Phase.{Phase}
-use Rattle.ticks.specs.Ticks.{phase_number, sum, ticks_of, rest_of, spacer_before, holder}
+use Rattle.ticks.specs.Ticks.{phase_number, sum, ticks_of, rest_of, spacer_before, holder, with_pulse}
 use Rattle.ticks.specs.declared.PhaseTicks.{PhaseTicks}
 use Rattle.ticks.proofs.Sums.{share, Fits, phase_number_lem, pulse_sum, pulse_ticks}
 use Rattle.units.specs.declared.Seen.{Seen}
-use Rattle.units.specs.declared.Ticks.{Ticks}
 use Rattle.host.specs.Step.{late, time_outside, fall_of, rise_of, host_outside, timed, host_step}
-use Rattle.host.specs.Time.{low}
+use Rattle.host.specs.Time.{low, spacer, tick}
 use Rattle.host.specs.declared.Host.{Host}
 use Rattle.host.specs.declared.Sent.{Sent}
-use Rattle.host.proofs.Legs.{low_most, not_late, tick_on}
+use Rattle.host.proofs.Legs.{low_most, spacer_most, not_late, tick_on}
 
 pub step_outside : (h : Host) (image : List ℕ) (seen : Seen) → host_outside h ≡ true → host_step h image seen ≡ refused 13
 unfolding host_step
@@ -41,6 +40,9 @@ module _ (h : Host) (timely : time_outside h ≡ false) where
   pub fits_time : Fit h.settings.t h.settings.h h.settings.p
   unfolding time_outside
   fits_time = (settings_within h.settings).0 ((either_false _ _).0 timely).0
+
+  pub some_p : 0 < h.settings.p
+  some_p = omega (arith, fits_time.p_within.0)
 
   -- Then the phases decide: they have no spacer before the fall, or this one.
   abbrev phase_row : List Row
@@ -59,25 +61,6 @@ module _ (h : Host) (timely : time_outside h ≡ false) where
   phases_left spacer e =
       let passed = (taken_exactly (fall_of h - sum h.phases) spacer phase_row).0 e in
       ((either_false _ _).1 (timely, passed.0.0), passed.1)
-
--- A pulse in time, by the parts of what is handed back.
-pub sent_is : (h : Host) (p : Pulse) (fall rise : Ticks) (risen time : ℕ) (phases : PhaseTicks) → fall ≡ (timed h p).fall
-    → rise ≡ (timed h p).rise → risen ≡ (timed h p).risen → time ≡ (timed h p).host.time → phases ≡ (timed h p).host.phases
-    → ◌≡◌ {A = Answer Sent}
-    (taken (record {
-      host = record { settings = h.settings; session = p.session; time = time; phases = phases };
-      fall = fall;
-      rise = rise;
-      risen = risen;
-    }))
-    (taken (timed h p))
-sent_is h p fall rise risen time phases f r n t l i =
-    taken (record {
-      host = record { settings = h.settings; session = p.session; time = t i; phases = l i };
-      fall = f i;
-      rise = r i;
-      risen = n i;
-    })
 
 module _ (h : Host) (fine : host_outside h ≡ false) where
   timely : time_outside h ≡ false
@@ -154,3 +137,42 @@ module _ (h : Host) (fine : host_outside h ≡ false) where
           + share k (holder (phase_number phase) index) (fall_of h - sum h.phases)
           + share k (phase_number phase) (rise_of h p.bit - fall_of h)
       phases_each = pulse_ticks h.phases phase index (fall_of h - sum h.phases) (rise_of h p.bit - fall_of h) on fit_all
+
+-- What a step answers, by what its calls say.
+module _ (h : Host) (image : List ℕ) (seen : Seen) where
+  pub late_refused : true ≡ time_outside h → refused 13 ≡ host_step h image seen
+  late_refused e = sym (step_outside h image seen (outside_time h (sym e)))
+
+  module _ (timely : time_outside h ≡ false) where
+    pub past_refused : refused 13 ≡ spacer_before h.phases (fall_of h) → refused 13 ≡ host_step h image seen
+    past_refused e = sym (step_outside h image seen (phases_past h timely 13 (sym e)))
+
+    module _ (left : ℕ) (spaced : taken left ≡ spacer_before h.phases (fall_of h)) where
+      passed : (host_outside h ≡ false) × (left ≡ fall_of h - sum h.phases)
+      passed = phases_left h timely left (sym spaced)
+
+      pub session_refused : (n : ℕ) → refused n ≡ session_step h.session image seen → refused n ≡ host_step h image seen
+      session_refused n e = sym (step_refused h passed.0 image seen n (sym e))
+
+      module _ (p : Pulse) (e : taken p ≡ session_step h.session image seen) where
+        pub times_fit : h.time + low h.settings p.bit + spacer h.settings p.silent ≤ 23806416876000000
+        times_fit =
+            let fit = fits h passed.0 in
+            omega (arith, time_most h passed.0 image seen p (sym e), low_most h.settings fit p.bit, spacer_most h.settings fit p.silent)
+
+        pub all_sent : (phases : PhaseTicks)
+            → phases ≡ with_pulse h.phases h.session.place.phase h.session.place.index left (rise_of h p.bit - fall_of h)
+            → ◌≡◌ {A = Answer Sent}
+            (taken (record {
+              host = record {
+                settings = h.settings;
+                session = p.session;
+                time = h.time + low h.settings p.bit + spacer h.settings p.silent;
+                phases = phases;
+              };
+              fall = tick h.settings h.time;
+              rise = tick h.settings (h.time + low h.settings p.bit);
+              risen = h.time + low h.settings p.bit;
+            }))
+            (host_step h image seen)
+        all_sent phases q = rw (q, passed.1) (sym (step_sent h passed.0 image seen p (sym e)))

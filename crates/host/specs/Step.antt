@@ -2,7 +2,7 @@
 -- Assumes nothing.
 use Rattle.std.specs.Prelude.{Bool, List, ◌∷◌, ◌++◌, ℕ, ◌+◌, ◌-◌, ◌*◌, ltb}
 use Rattle.terms.specs.Choice.{either}
-use Rattle.terms.specs.Refusals.{Row, Answer, refused, taken, ◌given-when◌, first}
+use Rattle.terms.specs.Refusals.{Row, Answer, ◌given-when◌, first}
 use Rattle.load.specs.Load.{load_rows, load_of}
 use Rattle.settings.specs.Settings.{settings_rows, settings_outside}
 use Rattle.settings.specs.declared.Settings.{Settings}
@@ -13,11 +13,7 @@ use Rattle.session.specs.declared.Pulse.{Pulse}
 use Rattle.ticks.specs.Ticks.{none, sum, with_pulse}
 use Rattle.units.specs.declared.Seen.{Seen}
 use Rattle.host.specs.Time.{low, spacer, tick}
-use Rattle.host.specs.declared.Begun.{Begun}
-use Rattle.host.specs.declared.Begun.TheVariants as begun
 use Rattle.host.specs.declared.Host.{Host}
-use Rattle.host.specs.declared.Planned.{Planned}
-use Rattle.host.specs.declared.Planned.TheVariants as planned
 use Rattle.host.specs.declared.Sent.{Sent}
 
 -- The host before its first pulse, which falls at time 0.
@@ -75,12 +71,3 @@ timed h p = record {
 -- The pulse in time, or the first row that applies.
 unfoldable pub host_step : Host → List ℕ → Seen → Answer Sent
 host_step h image seen = first (host_rows h image) (timed h (pulse_of h.session image seen))
-
--- What the answers tell: the number of a refusal, otherwise what is handed back.
-abbrev pub told_begun : Begun → Answer Host
-told_begun (begun.Refused n) = refused n
-told_begun (begun.Taken h) = taken h
-
-abbrev pub told_planned : Planned → Answer Sent
-told_planned (planned.Refused n) = refused n
-told_planned (planned.Taken s) = taken s

@@ -9,24 +9,19 @@ use settings::Settings;
 // The longest pulse with its spacer, in ps: a 0 of the largest t, then the largest h.
 const LONGEST_LEG: u64 = (2 * Settings::LARGEST_T + Settings::LARGEST_H) as u64 * PS_PER_NS;
 
-pub(crate) fn is_outside(host: Host) -> bool
-    ensures { result ≡ time_outside host }
-{
-    if host.settings.is_outside() {
-        return true;
+impl Host {
+    #[tactic(auto, using(terms::proofs::Refusals::walk), unfolding(crate::specs::Step::time_outside))]
+    pub(crate) fn is_outside(self) -> bool
+        ensures { result ≡ time_outside self }
+    {
+        self.settings.is_outside() || is_late(self.session.pulses, self.time)
     }
-    is_late(host.session.pulses, host.time)
 }
 
-// Whether a time is more than so many pulses can have taken. The product of the two is not formed: it need not fit.
+// Whether a time is more than so many pulses can have taken. A product of the two that does not fit is more than any time.
+#[tactic(auto, unfolding(crate::specs::Step::late))]
 fn is_late(pulses: u32, time: u64) -> bool
     ensures { result ≡ late pulses time }
 {
-    if time == 0 {
-        return false;
-    }
-    if pulses as u64 <= (time - 1) / LONGEST_LEG {
-        return true;
-    }
-    false
+    u64::from(pulses).saturating_mul(LONGEST_LEG) < time
 }

@@ -10,25 +10,21 @@ use borrow.Author.Tests.{eqb-false, ne_eqb}
 use Rattle.terms.specs.Refusals.{refused, taken}
 use Rattle.terms.proofs.Refusals.{refused_alike, taken_alike}
 use Rattle.terms.proofs.Tests.{when_false, when_elim, differ_false}
-use Rattle.load.specs.Load.{load_rows, load_of, other_image, accepted, told_accepted}
-use Rattle.load.specs.declared.Accepted.{Accepted}
-use Rattle.load.specs.declared.Accepted.TheVariants.{Refused, Taken}
+use Rattle.load.specs.Load.{load_rows, load_of, other_image, accepted}
 use Rattle.load.specs.declared.Load.{Load}
 use Rattle.session.specs.Step.{fresh, session_start}
 use Rattle.session.specs.declared.Session.{Session}
 
 module _ (command : ℕ) (image : List ℕ) where
-  pub start_refused : (r : Accepted) (n : ℕ) → r ≡ Refused n → told_accepted r ≡ accepted command image
-      → refused n ≡ session_start command image
+  pub start_refused : (n : ℕ) → refused n ≡ accepted command image → refused n ≡ session_start command image
   unfolding accepted session_start
-  start_refused r n e q = sym (refused_alike (load_rows command image) _ _ n (sym q ∙ ap told_accepted e))
+  start_refused n q = sym (refused_alike (load_rows command image) _ _ n (sym q))
 
-  pub start_taken : (r : Accepted) (l : Load) (s : Session) → r ≡ Taken l → told_accepted r ≡ accepted command image → s ≡ fresh l
-      → taken s ≡ session_start command image
+  pub start_taken : (l : Load) → taken l ≡ accepted command image → taken (fresh l) ≡ session_start command image
   unfolding accepted session_start
-  start_taken r l s e q w =
-      let p = taken_alike (load_rows command image) (load_of command image) (fresh (load_of command image)) l (sym q ∙ ap told_accepted e) in
-      ap taken (w ∙ ap fresh p.1) ∙ sym p.0
+  start_taken l q =
+      let p = taken_alike (load_rows command image) (load_of command image) (fresh (load_of command image)) l (sym q) in
+      ap (λ (x : Load). taken (fresh x)) p.1 ∙ sym p.0
 
   pub start_load : (s : Session) → session_start command image ≡ taken s
       → (accepted command image ≡ taken (load_of command image)) × (s ≡ fresh (load_of command image))

@@ -47,3 +47,6 @@ pub pulses_most : (s : Session) → session_outside s ≡ false → s.pulses ≤
 pulses_most s q =
     let w = ((session_within s).0 q).stands in
     omega (arith, w.sent, place_most s.load s.place.phase s.place.index w.short)
+
+pub all_counted : (s : Session) → session_outside s ≡ false → s.ones + s.zeros ≡ s.pulses
+all_counted s q = ((session_within s).0 q).counted

@@ -2,7 +2,7 @@
 -- Assumes nothing.
 use Rattle.std.specs.Prelude.{Bool, List, [], ◌∷◌, ℕ, ◌+◌}
 use Rattle.terms.specs.Choice.{when}
-use Rattle.terms.specs.Refusals.{Row, Answer, refused, taken, ◌given-when◌, first}
+use Rattle.terms.specs.Refusals.{Row, Answer, ◌given-when◌, first}
 use Rattle.load.specs.Load.{load_rows, load_of, other_image}
 use Rattle.load.specs.declared.Load.{Load}
 use Rattle.units.specs.declared.Seen.{Seen}
@@ -15,10 +15,6 @@ use Rattle.place.specs.declared.Phase.TheVariants.{Calibration}
 use Rattle.place.specs.declared.Place.{Place}
 use Rattle.session.specs.declared.Pulse.{Pulse}
 use Rattle.session.specs.declared.Session.{Session}
-use Rattle.session.specs.declared.Started.{Started}
-use Rattle.session.specs.declared.Started.TheVariants as started
-use Rattle.session.specs.declared.Stepped.{Stepped}
-use Rattle.session.specs.declared.Stepped.TheVariants as stepped
 
 -- A session before its first pulse.
 abbrev pub fresh : Load → Session
@@ -61,12 +57,3 @@ pulse_of s image seen = pulse_at s s.place.phase s.place.index image seen
 -- The pulse, or the first row that applies.
 unfoldable pub session_step : Session → List ℕ → Seen → Answer Pulse
 session_step s image seen = first (step_rows s image) (pulse_of s image seen)
-
--- What the answers tell: the number of a refusal, otherwise what is handed back.
-abbrev pub told_started : Started → Answer Session
-told_started (started.Refused n) = refused n
-told_started (started.Taken s) = taken s
-
-abbrev pub told_stepped : Stepped → Answer Pulse
-told_stepped (stepped.Refused n) = refused n
-told_stepped (stepped.Sent p) = taken p

@@ -2,13 +2,15 @@
 #![tactic(auto)]
 
 ghost use Rattle.std.specs.Prelude.{◌≡◌, false};
+ghost use Rattle.terms.specs.Refusals.{told};
 ghost use Rattle.session.specs.Ranges.{session_outside};
-ghost use Rattle.session.specs.Step.{counted, fresh, pulse_of, session_start, session_step, told_started, told_stepped};
+ghost use Rattle.session.specs.Step.{counted, session_start, session_step};
 
 mod ranges;
 
-use load::{Accepted, Load};
+use load::Load;
 use place::{Phase, Place};
+use terms::Refusal;
 use units::Seen;
 
 // A session: what it loads, where it is, and the numbers of pulses, ones and zeros sent.
@@ -21,13 +23,6 @@ pub struct Session {
     pub zeros: u32,
 }
 
-// What `Session::start` answers: a refusal by its number, or the session.
-#[derive(Clone, Copy)]
-pub enum Started {
-    Refused(u8),
-    Taken(Session),
-}
-
 // A pulse sent: its bit, whether it ends a silent pair of a wait, and the session after it.
 #[derive(Clone, Copy)]
 pub struct Pulse {
@@ -36,82 +31,61 @@ pub struct Pulse {
     pub session: Session,
 }
 
-// What `Session::step` answers: a refusal by its number, or the pulse that it sends.
-#[derive(Clone, Copy)]
-pub enum Stepped {
-    Refused(u8),
-    Sent(Pulse),
-}
-
 impl Session {
     // The session before its first pulse, or the first of refusals 4 to 9 that applies.
-    pub fn start(command: u32, image: &[u8]) -> Started
-        ensures { told_started result ≡ session_start command image.now }
+    #[tactic(auto, using(crate::proofs::Starts::start_refused, crate::proofs::Starts::start_taken))]
+    pub fn start(command: u32, image: &[u8]) -> Result<Session, Refusal>
+        ensures { told result ≡ session_start command image.now }
     {
-        match Load::new(command, image) {
-            Accepted::Refused(n) => Started::Refused(n),
-            Accepted::Taken(load) => Started::Taken(fresh(load)),
-        }
+        Ok(Session {
+            load: Load::new(command, image)?,
+            place: Place {
+                phase: Phase::Calibration,
+                index: 0,
+            },
+            pulses: 0,
+            ones: 0,
+            zeros: 0,
+        })
     }
 
     // The next pulse of the session, or a refusal: 13 for a record out of its ranges, 14 for one that has ended, 5 for an image of
     // another length than at the start. `seen` is what was seen around the pulse before.
-    pub fn step(self, image: &[u8], seen: Seen) -> Stepped
-        ensures { told_stepped result ≡ session_step self image.now seen }
+    #[tactic(auto, using(terms::proofs::Refusals::walk), unfolding(crate::specs::Step::session_step))]
+    pub fn step(self, image: &[u8], seen: Seen) -> Result<Pulse, Refusal>
+        ensures { told result ≡ session_step self image.now seen }
     {
-        if ranges::is_outside(self) {
-            return Stepped::Refused(13);
+        if self.is_outside() {
+            return Err(Refusal::Record);
         }
-        let load = self.load;
-        let place = self.place;
-        if place.has_ended() {
-            return Stepped::Refused(14);
+        if self.place.has_ended() {
+            return Err(Refusal::Ended);
         }
-        if load.is_other_image(image) {
-            return Stepped::Refused(5);
+        if self.load.is_other_image(image) {
+            return Err(Refusal::Length);
         }
-        Stepped::Sent(pulse_of(self, image, seen))
+        let bit = bits::bit(self.place, self.load, image);
+        let next = follow::next(self.place, self.load, seen);
+        Ok(Pulse {
+            bit,
+            silent: follow::ends_silent_pair(self.place, seen),
+            session: self.counted(next, bit),
+        })
     }
-}
 
-fn fresh(load: Load) -> Session
-    ensures { result ≡ fresh load }
-{
-    Session {
-        load,
-        place: Place {
-            phase: Phase::Calibration,
-            index: 0,
-        },
-        pulses: 0,
-        ones: 0,
-        zeros: 0,
+    // After a pulse of this bit, at the next place.
+    #[tactic(auto, using(crate::proofs::Within::all_counted, crate::proofs::Within::pulses_most), unfolding(terms::specs::Choice::when))]
+    fn counted(mut self, place: Place, bit: bool) -> Session
+        requires { session_outside self ≡ false }
+        ensures { result ≡ counted self place bit }
+    {
+        self.place = place;
+        self.pulses += 1;
+        if bit {
+            self.ones += 1;
+        } else {
+            self.zeros += 1;
+        }
+        self
     }
-}
-
-fn pulse_of(session: Session, image: &[u8], seen: Seen) -> Pulse
-    requires { session_outside session ≡ false }
-    ensures { result ≡ pulse_of session image.now seen }
-{
-    let load = session.load;
-    let place = session.place;
-    let bit = bits::bit(place, load, image);
-    let next = follow::next(place, load, seen);
-    let silent = follow::ends_silent_pair(place, seen);
-    Pulse {
-        bit,
-        silent,
-        session: counted(session, next, bit),
-    }
-}
-
-fn counted(mut session: Session, place: Place, bit: bool) -> Session
-    requires { session_outside session ≡ false }
-    ensures { result ≡ counted session place bit }
-{
-    session.place = place;
-    session.pulses = session.pulses + 1;
-    session.ones = session.ones + bit as u32;
-    session.zeros = session.zeros + !bit as u32;
-    session
 }

@@ -4,19 +4,14 @@ ghost use Rattle.session.specs.Ranges.{session_outside};
 
 use crate::Session;
 
-pub(crate) fn is_outside(session: Session) -> bool
-    ensures { result ≡ session_outside session }
-{
-    let load = session.load;
-    let place = session.place;
-    if load.is_outside() {
-        return true;
+impl Session {
+    #[tactic(auto, using(terms::proofs::Refusals::walk), unfolding(crate::specs::Ranges::session_outside))]
+    pub(crate) fn is_outside(self) -> bool
+        ensures { result ≡ session_outside self }
+    {
+        self.load.is_outside()
+            || range::is_outside(self.place, self.load)
+            || range::pulses_before(self.place, self.load) < u64::from(self.pulses)
+            || u64::from(self.ones) + u64::from(self.zeros) != u64::from(self.pulses)
     }
-    if range::is_outside(place, load) {
-        return true;
-    }
-    if range::pulses_before(place, load) < session.pulses as u64 {
-        return true;
-    }
-    session.ones as u64 + session.zeros as u64 != session.pulses as u64
 }

@@ -1,9 +1,8 @@
 -- What the ten add up to, and what they are after more ticks for one of them.
 -- Assumes nothing.
-use Rattle.std.proofs.Common.{◌≡◌, ℕ, zero, suc, ◌+◌, ◌-◌, ◌<◌, ◌≤◌, Bool, true, false, eqb, ltb, sym, refl, ap, ◌∙◌, true≢false, mod-eq_of_lt, arith, ltb-false, ltb-true, le-ltb, lt-ltb, eq-eqb, ne_eqb, eqb-true}
+use Rattle.std.proofs.Common.{◌≡◌, ℕ, zero, suc, ◌+◌, ◌-◌, ◌<◌, Bool, true, false, eqb, sym, refl, ap, ◌∙◌, true≢false, mod-eq_of_lt, arith, eq-eqb, ne_eqb, eqb-true}
 use borrow.Author.Tests.{eqb-false}
 use Rattle.terms.specs.Choice.{when}
-use Rattle.terms.specs.Refusals.{Answer, refused, taken}
 use Rattle.terms.proofs.Tests.{when_true, when_false, when_elim}
 use Rattle.lent.specs.Bytes.{total}
 use Rattle.units.specs.declared.Ticks.{Ticks}
@@ -12,7 +11,7 @@ use Rattle.place.specs.declared.Acknowledgement.{Acknowledgement}
 use Rattle.place.specs.declared.Acknowledgement.TheVariants.{Ram, Programming, Verification}
 use Rattle.place.specs.declared.Phase.{Phase}
 use Rattle.place.specs.declared.Phase.TheVariants.{Calibration, Handshake, Connection, Version, Command, Zeros, Size, Image, Wait, Ended}
-use Rattle.ticks.specs.Ticks.{none, wait_number, phase_number, sum, ticks_of, rest_of, less, more, added, holder, with_pulse}
+use Rattle.ticks.specs.Ticks.{none, wait_number, phase_number, sum, ticks_of, more, added, holder, with_pulse}
 use Rattle.ticks.specs.declared.PhaseTicks.{PhaseTicks}
 
 pub sum_is : (p : PhaseTicks) → sum p
@@ -20,63 +19,6 @@ pub sum_is : (p : PhaseTicks) → sum p
     + p.programming.0 + p.verification.0
 unfolding sum total
 sum_is p = omega arith
-
--- Taking phases away one after the other is taking their sum away.
-rest_past : (away count : ℕ) → count < away → rest_of away count ≡ refused 13
-unfolding rest_of
-rest_past away count h = when_true _ _ (lt-ltb count away h)
-
-rest_left : (away count : ℕ) → away ≤ count → rest_of away count ≡ taken (count - away)
-unfolding rest_of
-rest_left away count h = when_false _ _ (le-ltb count away h)
-
-module _ (sum phase fall : ℕ) where
-  more_away : (b : Bool) → ltb (fall - sum) phase ≡ b → sum ≤ fall → rest_of phase (fall - sum) ≡ rest_of (sum + phase) fall
-  more_away true e h =
-      let past = ltb-true (fall - sum) phase e in
-      rest_past phase (fall - sum) past ∙ sym (rest_past (sum + phase) fall (omega (arith, past, h)))
-  more_away false e h =
-      let fits = ltb-false (fall - sum) phase e in
-      let same : fall - sum - phase ≡ fall - (sum + phase) = omega arith in
-      rest_left phase (fall - sum) fits ∙ ap taken same ∙ sym (rest_left (sum + phase) fall (omega (arith, fits, h)))
-
-  less_from : (b : Bool) → ltb fall sum ≡ b → less (rest_of sum fall) phase ≡ rest_of (sum + phase) fall
-  less_from true e =
-      let past = ltb-true fall sum e in
-      ap (λ (x : Answer ℕ). less x phase) (rest_past sum fall past) ∙ sym (rest_past (sum + phase) fall (omega (arith, past)))
-  less_from false e =
-      let fits = ltb-false fall sum e in
-      ap (λ (x : Answer ℕ). less x phase) (rest_left sum fall fits) ∙ more_away (ltb (fall - sum) phase) refl fits
-
-  pub lesser : (left next : Answer ℕ) → left ≡ rest_of sum fall → next ≡ less left phase → next ≡ rest_of (sum + phase) fall
-  lesser left next e n = n ∙ ap (λ (x : Answer ℕ). less x phase) e ∙ less_from (ltb fall sum) refl
-
-pub in_turn : (p : PhaseTicks) (fall : ℕ)
-    → rest_of (0 + p.calibration.0 + p.handshake.0 + p.connection.0 + p.version.0 + p.command.0 + p.size.0 + p.image.0
-    + p.ram.0 + p.programming.0 + p.verification.0) fall
-    ≡ rest_of (sum p) fall
-in_turn p fall = ap (λ (n : ℕ). rest_of n fall) (omega (arith, sum_is p))
-
-pub all_left : (fall : ℕ) → taken fall ≡ rest_of 0 fall
-all_left fall = let all : fall ≡ fall - 0 = omega arith in ap taken all ∙ sym (rest_left 0 fall (omega arith))
-
--- A number that is none of the ten's adds nothing.
-pub added_none : (p : PhaseTicks) (n x : ℕ) → (n ≡ 0 → ⊥) → (n ≡ 1 → ⊥) → (n ≡ 2 → ⊥) → (n ≡ 3 → ⊥) → (n ≡ 4 → ⊥) → (n ≡ 5 → ⊥)
-    → (n ≡ 6 → ⊥) → (n ≡ 7 → ⊥) → (n ≡ 8 → ⊥) → (n ≡ 9 → ⊥) → p ≡ added p n x
-unfolding added when
-added_none p n x h0 h1 h2 h3 h4 h5 h6 h7 h8 h9 =
-    rw (
-      ne_eqb n 0 h0,
-      ne_eqb n 1 h1,
-      ne_eqb n 2 h2,
-      ne_eqb n 3 h3,
-      ne_eqb n 4 h4,
-      ne_eqb n 5 h5,
-      ne_eqb n 6 h6,
-      ne_eqb n 7 h7,
-      ne_eqb n 8 h8,
-      ne_eqb n 9 h9,
-    )
 
 -- What phase k gets of ticks that are for phase n.
 abbrev pub share : ℕ → ℕ → ℕ → ℕ

@@ -1,16 +1,15 @@
 -- 02, "Six": the ten phases, and the ticks of each.
 -- Assumes nothing.
-use Rattle.std.specs.Prelude.{ℕ, ◌+◌, ◌-◌, ◌%◌, ◌^◌, List, [], ◌∷◌, ◌==◌, nat_lt, slice_index}
+use Rattle.std.specs.Prelude.{ℕ, ◌+◌, ◌-◌, ◌%◌, ◌^◌, List, [], ◌∷◌, ◌==◌, nat_lt, slice_index, Option, None, Some}
 use Rattle.terms.specs.Choice.{when}
 use Rattle.terms.specs.Refusals.{Answer, refused, taken, ◌given-when◌, first}
 use Rattle.lent.specs.Bytes.{total}
+use Rattle.units.specs.declared.Ticks.{Ticks}
 use Rattle.place.specs.declared.Acknowledgement.{Acknowledgement}
 use Rattle.place.specs.declared.Acknowledgement.TheVariants.{Ram, Programming, Verification}
 use Rattle.place.specs.declared.Phase.{Phase}
 use Rattle.place.specs.declared.Phase.TheVariants.{Calibration, Handshake, Connection, Version, Command, Zeros, Size, Image, Wait, Ended}
 use Rattle.ticks.specs.declared.PhaseTicks.{PhaseTicks}
-use Rattle.ticks.specs.declared.Spacer.{Spacer}
-use Rattle.ticks.specs.declared.Spacer.TheVariants.{Past, Of}
 
 -- The ten in their order, by number. "The 32 zero bits after a wrong version belong to the command phase." A session that has ended is in
 -- none of them.
@@ -62,18 +61,13 @@ sum p = total (ten p)
 unfoldable pub rest_of : ℕ → ℕ → Answer ℕ
 rest_of away count = first (13 given-when nat_lt count away ∷ []) (count - away)
 
--- The same of an answer.
-abbrev pub less : Answer ℕ → ℕ → Answer ℕ
-less (refused n) away = refused n
-less (taken count) away = rest_of away count
-
 -- The spacer before a fall: the ticks since the last rise, which is the ten's sum; 13 where they add up past the fall.
 abbrev pub spacer_before : PhaseTicks → ℕ → Answer ℕ
 spacer_before p fall = rest_of (sum p) fall
 
-abbrev pub told_spacer : Spacer → Answer ℕ
-told_spacer Past = refused 13
-told_spacer (Of ticks) = taken ticks.0
+abbrev pub told_spacer : Option Ticks → Answer ℕ
+told_spacer None = refused 13
+told_spacer (Some ticks) = taken ticks.0
 
 -- More ticks for the phase of a number. A sum that does not fit keeps its lowest 64 bits.
 abbrev pub more : ℕ → ℕ → ℕ

@@ -3,7 +3,7 @@
 #![tactic(auto)]
 
 ghost use Rattle.std.specs.Prelude.{◌≡◌, ◌-◌};
-ghost use Rattle.ticks.specs.Ticks.{added, less, more, phase_number, rest_of, spacer_before, told_spacer, wait_number, with_pulse};
+ghost use Rattle.ticks.specs.Ticks.{added, more, phase_number, spacer_before, told_spacer, with_pulse};
 
 use place::{Acknowledgement, Phase, Place};
 use units::Ticks;
@@ -24,13 +24,6 @@ pub struct PhaseTicks {
     pub verification: Ticks,
 }
 
-// What `PhaseTicks::spacer_before` answers: the ten add up past the fall, or the ticks from the last rise to it.
-#[derive(Clone, Copy)]
-pub enum Spacer {
-    Past,
-    Of(Ticks),
-}
-
 impl PhaseTicks {
     // Before the first pulse.
     pub const NONE: PhaseTicks = PhaseTicks {
@@ -46,144 +39,89 @@ impl PhaseTicks {
         verification: Ticks(0),
     };
 
-    // The spacer before a fall: the ticks from the last rise, which the ten add up to. Each is taken away in turn, since their sum need not
-    // fit.
-    pub fn spacer_before(self, fall: Ticks) -> Spacer
+    // The spacer before a fall: the ticks from the last rise, which the ten add up to; none where they add up past the fall. Each is taken
+    // away in turn, since their sum need not fit.
+    #[tactic(auto, using(terms::proofs::Refusals::walk), unfolding(crate::specs::Ticks::rest_of, crate::specs::Ticks::sum, lent::specs::Bytes::total))]
+    pub fn spacer_before(self, fall: Ticks) -> Option<Ticks>
         ensures { told_spacer result ≡ spacer_before self fall.0 }
     {
-        let left = Spacer::Of(fall);
-        let left = less(left, self.calibration);
-        let left = less(left, self.handshake);
-        let left = less(left, self.connection);
-        let left = less(left, self.version);
-        let left = less(left, self.command);
-        let left = less(left, self.size);
-        let left = less(left, self.image);
-        let left = less(left, self.ram);
-        let left = less(left, self.programming);
-        less(left, self.verification)
+        let left = fall
+            .0
+            .checked_sub(self.calibration.0)?
+            .checked_sub(self.handshake.0)?
+            .checked_sub(self.connection.0)?
+            .checked_sub(self.version.0)?
+            .checked_sub(self.command.0)?
+            .checked_sub(self.size.0)?
+            .checked_sub(self.image.0)?
+            .checked_sub(self.ram.0)?
+            .checked_sub(self.programming.0)?
+            .checked_sub(self.verification.0)?;
+        Some(Ticks(left))
     }
 
     // The ten after a pulse that is sent at a place, with the ticks of the spacer before it and of its low. Of a sum that does not fit
     // 64 bits the lowest are kept; in a host's record every one fits.
+    #[tactic(auto, using(terms::proofs::Refusals::walk), unfolding(crate::specs::Ticks::holder))]
     pub fn with_pulse(self, place: Place, spacer: Ticks, low: Ticks) -> PhaseTicks
         ensures { result ≡ with_pulse self place.phase place.index spacer.0 low.0 }
     {
-        let phase = place.phase;
-        let own = number(phase);
-        if place.index == 0 {
-            return added(added(self, number_before(own), spacer), own, low);
+        let holder = if place.index == 0 {
+            before(place.phase)
+        } else {
+            place.phase
+        };
+        self.added(holder, spacer).added(place.phase, low)
+    }
+
+    // More ticks for a phase.
+    #[tactic(auto, unfolding(crate::specs::Ticks::added, terms::specs::Choice::when))]
+    fn added(mut self, phase: Phase, ticks: Ticks) -> PhaseTicks
+        ensures { result ≡ added self (phase_number phase) ticks.0 }
+    {
+        match phase {
+            Phase::Calibration => self.calibration = more(self.calibration, ticks),
+            Phase::Handshake => self.handshake = more(self.handshake, ticks),
+            Phase::Connection => self.connection = more(self.connection, ticks),
+            Phase::Version(_) => self.version = more(self.version, ticks),
+            Phase::Command | Phase::Zeros => self.command = more(self.command, ticks),
+            Phase::Size => self.size = more(self.size, ticks),
+            Phase::Image => self.image = more(self.image, ticks),
+            Phase::Wait(Acknowledgement::Ram) => self.ram = more(self.ram, ticks),
+            Phase::Wait(Acknowledgement::Programming) => self.programming = more(
+                self.programming,
+                ticks,
+            ),
+            Phase::Wait(Acknowledgement::Verification) => self.verification = more(
+                self.verification,
+                ticks,
+            ),
+            Phase::Ended(_) => {}
         }
-        added(added(self, own, spacer), own, low)
+        self
     }
 }
 
-// The number of a phase among the ten, from 0; 10 for a session that has ended.
-fn number(phase: Phase) -> u8
-    ensures { result ≡ phase_number phase }
+// The phase before one; of calibration, which is the first, itself.
+fn before(phase: Phase) -> Phase
+    ensures { phase_number result ≡ phase_number phase - 1 }
 {
     match phase {
-        Phase::Calibration => 0,
-        Phase::Handshake => 1,
-        Phase::Connection => 2,
-        Phase::Version(_) => 3,
-        Phase::Command => 4,
-        Phase::Zeros => 4,
-        Phase::Size => 5,
-        Phase::Image => 6,
-        Phase::Wait(awaited) => wait_number(awaited),
-        Phase::Ended(_) => 10,
+        Phase::Calibration | Phase::Handshake => Phase::Calibration,
+        Phase::Connection => Phase::Handshake,
+        Phase::Version(_) => Phase::Connection,
+        Phase::Command | Phase::Zeros => Phase::Version(0),
+        Phase::Size => Phase::Command,
+        Phase::Image => Phase::Size,
+        Phase::Wait(Acknowledgement::Ram) => Phase::Image,
+        Phase::Wait(Acknowledgement::Programming) => Phase::Wait(Acknowledgement::Ram),
+        Phase::Wait(Acknowledgement::Verification) => Phase::Wait(Acknowledgement::Programming),
+        Phase::Ended(_) => Phase::Wait(Acknowledgement::Verification),
     }
-}
-
-fn wait_number(awaited: Acknowledgement) -> u8
-    ensures { result ≡ wait_number awaited }
-{
-    match awaited {
-        Acknowledgement::Ram => 7,
-        Acknowledgement::Programming => 8,
-        Acknowledgement::Verification => 9,
-    }
-}
-
-// The number before one; of 0 it is 0, since calibration is the first.
-fn number_before(own: u8) -> u8
-    ensures { result ≡ own - 1 }
-{
-    if own == 0 {
-        return 0;
-    }
-    own - 1
-}
-
-// What is left once a phase is taken away.
-fn less(left: Spacer, phase: Ticks) -> Spacer
-    ensures { told_spacer result ≡ less (told_spacer left) phase.0 }
-{
-    match left {
-        Spacer::Past => Spacer::Past,
-        Spacer::Of(left) => rest(left, phase),
-    }
-}
-
-fn rest(left: Ticks, phase: Ticks) -> Spacer
-    ensures { told_spacer result ≡ rest_of phase.0 left.0 }
-{
-    if left.0 < phase.0 {
-        return Spacer::Past;
-    }
-    Spacer::Of(Ticks(left.0 - phase.0))
-}
-
-// More ticks for the phase of a number.
-fn added(mut phases: PhaseTicks, number: u8, ticks: Ticks) -> PhaseTicks
-    ensures { result ≡ added phases number ticks.0 }
-{
-    if number == 0 {
-        phases.calibration = more(phases.calibration, ticks);
-        return phases;
-    }
-    if number == 1 {
-        phases.handshake = more(phases.handshake, ticks);
-        return phases;
-    }
-    if number == 2 {
-        phases.connection = more(phases.connection, ticks);
-        return phases;
-    }
-    if number == 3 {
-        phases.version = more(phases.version, ticks);
-        return phases;
-    }
-    if number == 4 {
-        phases.command = more(phases.command, ticks);
-        return phases;
-    }
-    if number == 5 {
-        phases.size = more(phases.size, ticks);
-        return phases;
-    }
-    if number == 6 {
-        phases.image = more(phases.image, ticks);
-        return phases;
-    }
-    if number == 7 {
-        phases.ram = more(phases.ram, ticks);
-        return phases;
-    }
-    if number == 8 {
-        phases.programming = more(phases.programming, ticks);
-        return phases;
-    }
-    if number == 9 {
-        phases.verification = more(phases.verification, ticks);
-        return phases;
-    }
-    phases
 }
 
 fn more(phase: Ticks, ticks: Ticks) -> Ticks
     ensures { result.0 ≡ more phase.0 ticks.0 }
 {
-    Ticks(std::num::wrapping_add_u64(phase.0, ticks.0))
+    Ticks(phase.0.wrapping_add(ticks.0))
 }
