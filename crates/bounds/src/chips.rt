@@ -1,34 +1,37 @@
 // Chips.
+use crate::words;
 use crate::words::{number, said, size, small};
-use crate::{print, words};
-use chip::{Chip, Stepped};
+use chip::Chip;
 use eeprom::Fault;
 use listener::Listener;
 use margins::Margins;
 use phases::{Acknowledgement, Ending, Phase, Reply};
 use receiver::Receiver;
-use units::{Bytes, Distance, Longs, Loops};
+use std::io;
+use units::{Bytes, Distance, Longs, Loops, Seen};
 
 // The EEPROM would boot, and the pulse is a 1.
-pub(crate) fn step(line: &[u8]) {
-    let mut ram = [1u8; 32_768];
-    let mut eeprom = [2u8; 32_768];
+pub(crate) fn print_chip(rt: &impl Print, line: &[u8]) -> io::Result<()> {
+    let mut ram = [1u8; Bytes::MEMORY.0];
+    let mut eeprom = [2u8; Bytes::MEMORY.0];
     eeprom[6] = 16;
     eeprom[7] = 0;
     let a = size(line, words::RAM, 32_768);
     let b = size(line, words::EEPROM, 32_768);
-    pulse(line, &mut ram[..a], &mut eeprom[..b]);
+    print_pulse(rt, chip(line), &mut ram[..a], &mut eeprom[..b])
 }
 
-fn pulse(line: &[u8], ram: &mut [u8], eeprom: &mut [u8]) {
-    match chip(line).step(ram, eeprom, Loops(8), Loops(8)) {
-        Stepped::Refused(n) => print::number(print::REFUSED, n as u64),
-        Stepped::Taken(played) => {
-            let reply = played.reply;
-            print::replied(reply)
-        }
+// What a pulse comes to, and the plain sums of both memories.
+fn print_pulse(rt: &impl Print, chip: Chip, ram: &mut [u8], eeprom: &mut [u8]) -> io::Result<()> {
+    match chip.step(ram, eeprom, Loops(8), Loops(8)) {
+        Ok(played) => match played.reply {
+            Seen::Silence => print!(rt; ": taken")?,
+            Seen::Zero => print!(rt; ": taken, replies 0")?,
+            Seen::One => print!(rt; ": taken, replies 1")?,
+        },
+        Err(refusal) => print!(rt; ": {refusal}")?,
     }
-    print::sums(ram, eeprom);
+    println!(rt; " ram {} eeprom {}", lent::total(ram), lent::total(eeprom))
 }
 
 fn chip(line: &[u8]) -> Chip {
@@ -55,7 +58,7 @@ fn margins(line: &[u8]) -> Margins {
     }
 }
 
-fn distance(line: &[u8], below: u32, above: u32, otherwise: Distance) -> Distance {
+fn distance(line: &[u8], below: &str, above: &str, otherwise: Distance) -> Distance {
     let threshold = Loops(small(line, below, 0));
     let low = Loops(small(line, above, 0));
     if said(line, below) || said(line, above) {

@@ -1,32 +1,37 @@
 // Hosts and serial sessions.
 ghost use Rattle.std.specs.Prelude.{◌≤◌};
 
+use crate::words;
 use crate::words::{number, size, small};
-use crate::{print, words};
-use host::{Host, Planned};
+use host::Host;
 use load::Load;
 use packing::Packing;
 use place::{Acknowledgement, Ending, Phase, Place};
-use serial::{Serial, Stepped, Wire};
+use serial::Serial;
 use session::Session;
 use settings::Settings;
+use std::io;
+use terms::Refusal;
 use ticks::PhaseTicks;
 use units::{Bytes, Seen, Ticks};
 
 // Each is lent zeros: as many as its load has, where the case says nothing else.
-pub(crate) fn step_host(line: &[u8]) {
-    let zeros = [0u8; 32_768];
-    match host(line).step(&zeros[..lent(line)], Seen::Silence) {
-        Planned::Refused(n) => print::number(print::REFUSED, n as u64),
-        Planned::Taken(_) => print::word(print::TAKEN),
-    }
+pub(crate) fn print_host(rt: &impl Print, line: &[u8]) -> io::Result<()> {
+    let zeros = [0u8; Bytes::MEMORY.0];
+    let stepped = host(line).step(&zeros[..lent(line)], Seen::Silence);
+    print_taken(rt, stepped.err())
 }
 
-pub(crate) fn step_serial(line: &[u8]) {
-    let zeros = [0u8; 32_768];
-    match serial(line).step(&zeros[..lent(line)], Wire::Nothing) {
-        Stepped::Refused(n) => print::number(print::REFUSED, n as u64),
-        Stepped::Taken(_) => print::word(print::TAKEN),
+pub(crate) fn print_serial(rt: &impl Print, line: &[u8]) -> io::Result<()> {
+    let zeros = [0u8; Bytes::MEMORY.0];
+    let stepped = serial(line).step(&zeros[..lent(line)], None);
+    print_taken(rt, stepped.err())
+}
+
+fn print_taken(rt: &impl Print, refused: Option<Refusal>) -> io::Result<()> {
+    match refused {
+        Some(refusal) => println!(rt; ": {refusal}"),
+        None => println!(rt; ": taken"),
     }
 }
 
@@ -95,11 +100,9 @@ fn session(line: &[u8]) -> Session {
 // The load and the place of a session.
 fn serial(line: &[u8]) -> Serial {
     let session = session(line);
-    let load = session.load;
-    let place = session.place;
     Serial {
-        load,
-        place,
+        load: session.load,
+        place: session.place,
         packing: Packing::Three,
     }
 }

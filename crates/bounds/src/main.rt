@@ -4,54 +4,54 @@
 
 mod chips;
 mod hosts;
-mod lines;
-mod print;
 mod words;
 
+use std::io::{self, Read, Write};
 use words::said;
 
-fn main() {
-    // One byte more than a table may have, so that a longer one is seen to be too long.
-    let mut table = [0u8; 32_769];
-    let n = io::read_full(0, &mut table);
-    if n < 32_769 {
-        play(&table[..n]);
-    } else {
-        print::word(print::TOO_LONG);
-        io::write_all(1, b"\n");
-    }
-}
+// The bytes of the longest table that is taken.
+const LONGEST: usize = 32_768;
 
-// No table has more lines than bytes. An empty line ends it.
-fn play(table: &[u8]) {
-    for n in 0..32_768 {
-        let line = cases::line(table, n);
-        if line.len() == 0 {
-            return;
+fn main(rt: HostRuntime) -> io::Result<()> {
+    let mut table = Vec::new(rt.alloc());
+    // An input that cannot be read ends there.
+    let _ = rt.reader().take(LONGEST as u64 + 1).read_to_end(&mut table);
+    if LONGEST < table.len() {
+        return println!(rt; "the table has more than 32768 bytes");
+    }
+    for line in table.split(|byte| *byte == b'\n') {
+        // An empty line ends it.
+        if line.is_empty() {
+            break;
         }
-        if line[0] != b'#' {
-            self::line(line);
+        if !line.starts_with(b"#") {
+            print_line(&rt, line)?;
         }
     }
+    Ok(())
 }
 
-// A line is printed up to its bar. One that has a bar is a case, any other a heading.
-fn line(line: &[u8]) {
-    let bar = lines::bar(line);
-    io::write_all(1, &line[..bar]);
-    if bar < line.len() {
-        step(line);
+// A line is printed up to the space before its bar. One that has a bar is a case, any other a heading.
+fn print_line(rt: &impl Print, line: &[u8]) -> io::Result<()> {
+    match line.iter().skip(1).position(|byte| *byte == b'|') {
+        Some(bar) => {
+            io::writer(rt).write_all(line.get(..bar).unwrap_or(line))?;
+            print_step(rt, line)
+        }
+        None => {
+            io::writer(rt).write_all(line)?;
+            println!(rt; "")
+        }
     }
-    io::write_all(1, b"\n");
 }
 
 // Steps a host, a serial session or a chip.
-fn step(line: &[u8]) {
+fn print_step(rt: &impl Print, line: &[u8]) -> io::Result<()> {
     if said(line, words::HOST) {
-        return hosts::step_host(line);
+        hosts::print_host(rt, line)
+    } else if said(line, words::SERIAL) {
+        hosts::print_serial(rt, line)
+    } else {
+        chips::print_chip(rt, line)
     }
-    if said(line, words::SERIAL) {
-        return hosts::step_serial(line);
-    }
-    chips::step(line);
 }

@@ -3,252 +3,77 @@
 // refusal. bench/serial.rs is the same program in Rust.
 #![tactic(auto)]
 
-use figures::Figure;
 use packing::Packing;
-use place::{HostEnd, Phase, Place};
-use serial::{Serial, Started, Stepped, Wire};
+use place::{Phase, Place};
+use serial::Serial;
+use std::alloc::AllocError;
 use std::env::Env;
+use std::io::{self, Read, Write};
 
 // No session has more calls: 1,299, and eight for each byte of the image.
 const CALLS: u32 = 263_379;
 
+// One byte more than the longest image has, so that a longer input is seen to be too long.
+const MOST: u64 = 32_761;
+
 // The parts of a session, by the byte that a call sends next.
-const CALIBRATION: u32 = 0;
-
-const HANDSHAKE: u32 = 1;
-
-const CONNECTION: u32 = 2;
-
-const LOAD: u32 = 3;
-
-const WAIT: u32 = 4;
-
-const ENDED: u32 = 5;
-
-// The session, the bytes that were sent so far, and the calls.
-#[derive(Clone, Copy)]
-struct Progress {
-    serial: Serial,
-    bytes: u32,
-    calls: u32,
+#[derive(Clone, Copy, PartialEq, Eq, PartialOrd, Ord)]
+enum Part {
+    Calibration,
+    Handshake,
+    Connection,
+    Load,
+    Wait,
+    Ended,
 }
 
-fn main(rt: HostRuntime) {
-    let command = argument(&rt, 1);
-    let bits = argument(&rt, 2);
-    let Figure::Number(command) = command else {
-        return usage();
+fn main(rt: HostRuntime) -> io::Result<()> {
+    let (Some(command), Some(bits @ (0 | 1 | 3 | 5))) = (argument(&rt, 1), argument(&rt, 2)) else {
+        return eprintln!(rt; "docked: two numbers are wanted, COMMAND and BITS (0, 1, 3 or 5), and an image on standard input");
     };
-    let Figure::Number(bits) = bits else {
-        return usage();
-    };
-    // One byte more than the longest image has, so that a longer input is seen to be too long.
-    let mut image = [0u8; 32_761];
-    let n = io::read_full(0, &mut image);
-    dock(command, bits, &image[..n]);
+    let mut image = Vec::new(rt.alloc());
+    // An input that cannot be read ends there.
+    let _ = rt.reader().take(MOST).read_to_end(&mut image);
+    match bits {
+        1 => write_bytes(&rt, Packing::One, command, image.as_slice()),
+        3 => write_bytes(&rt, Packing::Three, command, image.as_slice()),
+        5 => write_bytes(&rt, Packing::Fewest, command, image.as_slice()),
+        _ => print_lines(&rt, command, image.as_slice()),
+    }
 }
 
-// An argument by its number. One that is missing, or too long for a figure, is none.
-fn argument(rt: &HostRuntime, i: usize) -> Figure {
+// An argument by its number. One that is missing, or too long for a figure, is none. It stands in each program: no promise could say what the
+// environment has, and a library's public functions have one.
+fn argument(rt: &HostRuntime, i: usize) -> Option<u32> {
     let mut text = [0u8; 20];
-    let n = rt.arg(i, &mut text).unwrap_or(0);
+    let n = rt.arg(i, &mut text).ok()?;
     figures::read(&text[..n])
 }
 
-fn usage() {
-    io::write_all(
-        2,
-        b"docked: two numbers are wanted, COMMAND and BITS (0, 1, 3 or 5), and an image on standard input\n",
-    );
-}
-
-fn dock(command: u32, bits: u32, image: &[u8]) {
-    match bits {
-        0 => print_lines(command, image),
-        1 => write_bytes(Packing::One, command, image),
-        3 => write_bytes(Packing::Three, command, image),
-        5 => write_bytes(Packing::Fewest, command, image),
-        _ => usage(),
-    }
-}
-
-fn write_bytes(packing: Packing, command: u32, image: &[u8]) {
+fn write_bytes(rt: &(impl Print + AllocGlobal), packing: Packing, command: u32, image: &[u8]) -> io::Result<()> {
     match Serial::start(packing, command, image) {
-        Started::Refused(n) => print_refused(n),
-        Started::Taken(serial) => {
-            let mut bytes = [0u8; CALLS as usize];
-            let end = run(fresh(serial), ENDED, image, &mut bytes);
-            write_first(end.bytes as usize, &bytes);
+        Ok(serial) => {
+            let mut bytes = Vec::new(rt.alloc());
+            send(serial, Part::Ended, image, &mut bytes)?;
+            io::writer(rt).write_all(bytes.as_slice())
         }
-    }
-}
-
-fn write_first(n: usize, bytes: &[u8]) {
-    if n <= bytes.len() {
-        say(&bytes[0..n]);
+        Err(refusal) => println!(rt; "{refusal}"),
     }
 }
 
 // Every packing takes the same loads.
-fn print_lines(command: u32, image: &[u8]) {
-    match Serial::start(Packing::One, command, image) {
-        Started::Refused(n) => print_refused(n),
-        Started::Taken(serial) => print_line(b"packing one", serial, image),
-    }
-    match Serial::start(Packing::Three, command, image) {
-        Started::Refused(_) => {}
-        Started::Taken(serial) => print_line(b"packing three", serial, image),
-    }
-    match Serial::start(Packing::Fewest, command, image) {
-        Started::Refused(_) => {}
-        Started::Taken(serial) => print_line(b"packing fewest", serial, image),
-    }
-}
-
-fn print_line(name: &[u8], serial: Serial, image: &[u8]) {
-    say(name);
-    let calibrated = sent(fresh(serial), HANDSHAKE, image);
-    let connecting = sent(calibrated, CONNECTION, image);
-    number(b" handshake ", between(calibrated.bytes, connecting.bytes));
-    let connected = sent(connecting, LOAD, image);
-    let loaded = sent(connected, WAIT, image);
-    number(b" load ", between(connected.bytes, loaded.bytes));
-    print_end(sent(loaded, ENDED, image));
-}
-
-fn print_end(end: Progress) {
-    number(b" bytes ", end.bytes);
-    number(b" calls ", end.calls);
-    let serial = end.serial;
-    let ended = serial.end();
-    if let HostEnd::Ended(ending) = ended {
-        number(b" host ", ending.number() as u32);
-    }
-    print_seconds(end.bytes);
-}
-
-fn between(first: u32, last: u32) -> u32 {
-    std::num::wrapping_sub_u32(last, first)
-}
-
-fn fresh(serial: Serial) -> Progress {
-    Progress {
-        serial,
-        bytes: 0,
-        calls: 0,
-    }
-}
-
-fn sent(start: Progress, part: u32, image: &[u8]) -> Progress {
-    let mut bytes = [0u8; CALLS as usize];
-    run(start, part, image, &mut bytes)
-}
-
-// Calls until the next byte is one of a part.
-fn run(start: Progress, part: u32, image: &[u8], bytes: &mut [u8]) -> Progress {
-    let mut serial = start.serial;
-    let mut count = start.bytes;
-    let mut n = 0;
-    while n < CALLS {
-        let place = serial.place;
-        if part <= part_at(place) {
-            break;
-        }
-        match serial.step(image, reply(place)) {
-            Stepped::Refused(_) => {
-                break;
-            }
-            Stepped::Taken(turn) => {
-                let sent = turn.sent;
-                count = kept(bytes, count, sent);
-                serial = turn.serial;
-            }
-        }
-        n += 1;
-    }
-    Progress {
-        serial,
-        bytes: count,
-        calls: std::num::wrapping_add_u32(start.calls, n),
-    }
-}
-
-// The part of the byte that is sent next. At a pair's second pulse the pair is sent.
-fn part_at(place: Place) -> u32 {
-    let phase = place.phase;
-    let index = place.index;
-    match phase {
-        Phase::Calibration => from_second(index, 1, CALIBRATION),
-        Phase::Handshake => HANDSHAKE,
-        Phase::Connection => CONNECTION,
-        Phase::Version(_) => from_second(index, 15, CONNECTION),
-        Phase::Command => LOAD,
-        Phase::Zeros => LOAD,
-        Phase::Size => LOAD,
-        Phase::Image => LOAD,
-        Phase::Wait(_) => WAIT,
-        Phase::Ended(_) => ENDED,
-    }
-}
-
-// A part, or from the second pulse of its last pair on the next.
-fn from_second(index: u32, last: u32, part: u32) -> u32 {
-    if index < last {
-        return part;
-    }
-    std::num::wrapping_add_u32(part, 1)
-}
-
-// Keeps what is sent after so many bytes, and counts it.
-fn kept(bytes: &mut [u8], count: u32, sent: Wire) -> u32 {
-    match sent {
-        Wire::Nothing => count,
-        Wire::Byte(byte) => {
-            keep(bytes, count as usize, byte);
-            std::num::wrapping_add_u32(count, 1)
+fn print_lines(rt: &(impl Print + AllocGlobal), command: u32, image: &[u8]) -> io::Result<()> {
+    for (name, packing) in [
+        ("one", Packing::One),
+        ("three", Packing::Three),
+        ("fewest", Packing::Fewest),
+    ] {
+        match Serial::start(packing, command, image) {
+            Ok(serial) => print_line(rt, name, serial, image)?,
+            Err(refusal) => return println!(rt; "{refusal}"),
         }
     }
-}
-
-fn keep(bytes: &mut [u8], at: usize, byte: u8) {
-    if at < bytes.len() {
-        bytes[at] = byte;
-    }
-}
-
-// What the chip answers to the pair at whose second pulse the record stands; elsewhere nothing comes back.
-fn reply(place: Place) -> Wire {
-    let phase = place.phase;
-    let index = place.index;
-    match phase {
-        Phase::Calibration => Wire::Nothing,
-        Phase::Handshake => Wire::Nothing,
-        Phase::Connection => bit(sequence::draw(251 + index / 2)),
-        Phase::Version(_) => bit(index < 2),
-        Phase::Command => Wire::Nothing,
-        Phase::Zeros => Wire::Nothing,
-        Phase::Size => Wire::Nothing,
-        Phase::Image => Wire::Nothing,
-        Phase::Wait(_) => acknowledged(index),
-        Phase::Ended(_) => Wire::Nothing,
-    }
-}
-
-fn bit(bit: bool) -> Wire {
-    if bit {
-        Wire::Byte(0xff)
-    } else {
-        Wire::Byte(0xfe)
-    }
-}
-
-// The chip aligns on the first pair and answers the next.
-fn acknowledged(index: u32) -> Wire {
-    if index < 2 {
-        Wire::Nothing
-    } else {
-        Wire::Byte(0xfe)
-    }
+    Ok(())
 }
 
 // At 115,200 baud nine bytes of ten bit times take 781,250 ns.
@@ -256,29 +81,77 @@ const NS_PER_NINE: u64 = 781_250;
 
 const NS_PER_S: u64 = 1_000_000_000;
 
-// The time of the bytes on the wire, cut to the nanosecond.
-fn print_seconds(bytes: u32) {
-    let ns = bytes as u64 * NS_PER_NINE / 9;
-    say(b" seconds ");
-    io::print_decimal(1, ns / NS_PER_S);
-    say(b".");
-    // With a 1 before them the nine digits have all their zeros.
-    let mut text = [0u8; 20];
-    let n = io::decimal(NS_PER_S + ns % NS_PER_S, &mut text);
-    say(&text[1..n]);
-    say(b"\n");
+// How many bytes the handshake and the load take, and all that the session comes to, with the time of its bytes on the wire, cut to the
+// nanosecond.
+fn print_line(rt: &(impl Print + AllocGlobal), name: &str, start: Serial, image: &[u8]) -> io::Result<()> {
+    let mut bytes = Vec::new(rt.alloc());
+    let mut serial = start;
+    let mut calls = 0u32;
+    let mut ends = [0usize; 5];
+    for (end, part) in ends.iter_mut().zip([
+        Part::Handshake,
+        Part::Connection,
+        Part::Load,
+        Part::Wait,
+        Part::Ended,
+    ]) {
+        let (next, n) = send(serial, part, image, &mut bytes)?;
+        serial = next;
+        calls = calls.wrapping_add(n);
+        *end = bytes.len();
+    }
+    let [calibrated, connecting, connected, loaded, all] = ends;
+    print!(rt; "packing {name} handshake {}", connecting.wrapping_sub(calibrated))?;
+    print!(rt; " load {} bytes {all} calls {calls}", loaded.wrapping_sub(connected))?;
+    if let Some(ending) = serial.end() {
+        print!(rt; " host {ending}")?;
+    }
+    let ns = (all as u64).wrapping_mul(NS_PER_NINE) / 9;
+    println!(rt; " seconds {}.{:09}", ns / NS_PER_S, ns % NS_PER_S)
 }
 
-fn print_refused(n: u8) {
-    number(b"refused ", n as u32);
-    say(b"\n");
+// Calls until the next byte is one of a part: keeps the bytes that are sent, and answers the session then, and how many calls that took.
+fn send(start: Serial, part: Part, image: &[u8], bytes: &mut Vec<u8>) -> Result<(Serial, u32), AllocError> {
+    let mut serial = start;
+    for calls in 0..CALLS {
+        if part <= part_at(serial.place) {
+            return Ok((serial, calls));
+        }
+        let Ok(turn) = serial.step(image, reply(serial.place)) else {
+            return Ok((serial, calls));
+        };
+        if let Some(byte) = turn.sent {
+            bytes.push(byte)?;
+        }
+        serial = turn.serial;
+    }
+    Ok((serial, CALLS))
 }
 
-fn number(name: &[u8], n: u32) {
-    say(name);
-    io::print_decimal(1, n as u64);
+// The part of the byte that is sent next. At the second pulse of a part's last pair that pair is sent.
+fn part_at(place: Place) -> Part {
+    match place.phase {
+        Phase::Calibration if place.index < 1 => Part::Calibration,
+        Phase::Calibration | Phase::Handshake => Part::Handshake,
+        Phase::Version(_) if 15 <= place.index => Part::Load,
+        Phase::Connection | Phase::Version(_) => Part::Connection,
+        Phase::Command | Phase::Zeros | Phase::Size | Phase::Image => Part::Load,
+        Phase::Wait(_) => Part::Wait,
+        Phase::Ended(_) => Part::Ended,
+    }
 }
 
-fn say(words: &[u8]) {
-    io::write_all(1, words);
+// What the chip answers to the pair at whose second pulse the record stands; elsewhere nothing comes back.
+fn reply(place: Place) -> Option<u8> {
+    match place.phase {
+        Phase::Connection => Some(byte(sequence::draw(251 + place.index / 2))),
+        Phase::Version(_) => Some(byte(place.index < 2)),
+        // The chip aligns on the first pair and answers the next.
+        Phase::Wait(_) if 2 <= place.index => Some(byte(false)),
+        _ => None,
+    }
+}
+
+fn byte(bit: bool) -> u8 {
+    if bit { 0xff } else { 0xfe }
 }

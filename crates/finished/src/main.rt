@@ -3,36 +3,27 @@
 // counted: bench/finish does.
 #![tactic(auto)]
 
+use std::io::{self, Read};
 use units::Bytes;
 
-fn main() {
+fn main(rt: HostRuntime) -> io::Result<()> {
     // A byte of RAM that was not stored is 1 until it is zeroed.
-    let mut input = [1u8; 32_769];
-    let n = io::read_full(0, &mut input);
-    if n == 0 {
-        return say(b"nothing on standard input\n");
+    let mut ram = [1u8; Bytes::MEMORY.0];
+    let mut input = Vec::new(rt.alloc());
+    // An input that cannot be read ends there.
+    let _ = rt.reader().take(1 + Bytes::MEMORY.0 as u64).read_to_end(&mut input);
+    let Some((first, stored)) = input.split_first() else {
+        return println!(rt; "nothing on standard input");
+    };
+    for (byte, read) in ram.iter_mut().zip(stored) {
+        *byte = *read;
     }
-    if input[0] == b'-' {
-        print(&input[1..], b"not finished\n");
+    let words = if *first == b'-' {
+        "not finished"
+    } else if ram::finish(&mut ram, Bytes(stored.len())) {
+        "good"
     } else {
-        finish(&mut input[1..], Bytes(n - 1));
-    }
-}
-
-fn finish(ram: &mut [u8], end: Bytes) {
-    if ram::finish(ram, end) {
-        print(ram, b"good\n");
-    } else {
-        print(ram, b"bad\n");
-    }
-}
-
-fn print(ram: &[u8], words: &[u8]) {
-    io::print_decimal(1, lent::total(ram));
-    say(b" ");
-    say(words);
-}
-
-fn say(words: &[u8]) {
-    io::write_all(1, words);
+        "bad"
+    };
+    println!(rt; "{} {words}", lent::total(&ram))
 }

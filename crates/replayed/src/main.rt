@@ -3,143 +3,60 @@
 // standard input, and the trace is what follows them.
 #![tactic(auto)]
 
-ghost use Rattle.std.specs.Prelude.{◌≡◌, length};
-
 use eeprom::Fault;
-use figures::Figure;
-use margins::{Margin, Nearest};
-use phases::{ChipEnd, Ending};
-use replay::{Replayed, Report};
+use replay::Report;
 use std::env::Env;
+use std::io::{self, Read};
+use units::Bytes;
 
 // The bytes of the longest trace that is taken.
 const LONGEST: usize = 4_194_304;
 
-fn main(rt: HostRuntime) {
+// One byte more than an EEPROM has, so that a longer one is seen to be too long.
+const MOST: u32 = 32_769;
+
+fn main(rt: HostRuntime) -> io::Result<()> {
     let mut text = [0u8; 20];
     let n = rt.arg(1, &mut text).unwrap_or(0);
     if n == 0 {
-        return with_zeros();
+        let mut zeros = [0u8; Bytes::MEMORY.0];
+        let mut trace = Vec::new(rt.alloc());
+        read(&rt, 0, &mut trace);
+        return play(&rt, trace.as_slice(), &mut zeros);
     }
-    match figures::read(&text[..n]) {
-        Figure::Not => usage(),
-        Figure::Number(size) => with_bytes(size as usize),
+    let Some(size @ 0..=MOST) = figures::read(&text[..n]) else {
+        return eprintln!(rt; "replayed: a trace is wanted on standard input, and before it an EEPROM of as many bytes as the argument says, at most 32769");
+    };
+    let mut input = Vec::new(rt.alloc());
+    read(&rt, size as usize, &mut input);
+    let at = input.len().min(size as usize);
+    let (eeprom, trace) = input.split_at_mut(at);
+    play(&rt, trace, eeprom)
+}
+
+// Standard input, up to so many bytes and a trace of one byte more than the longest has, so that a longer one is seen to be too long. An
+// input that cannot be read ends there.
+fn read(rt: &HostRuntime, before: usize, input: &mut Vec<u8>) {
+    let most = before as u64 + LONGEST as u64 + 1;
+    let _ = rt.reader().take(most).read_to_end(input);
+}
+
+fn play(rt: &(impl Print + Eprint), trace: &[u8], eeprom: &mut [u8]) -> io::Result<()> {
+    if LONGEST < trace.len() {
+        return eprintln!(rt; "replayed: the trace is over 4194304 bytes");
     }
-}
-
-fn usage() {
-    io::write_all(
-        2,
-        b"replayed: a trace is wanted on standard input, and before it an EEPROM of as many bytes as the argument says, at most 32769\n",
-    );
-}
-
-fn with_zeros() {
-    let mut eeprom = [0u8; 32_768];
-    play(&mut eeprom);
-}
-
-fn with_bytes(size: usize) {
-    // One byte more than an EEPROM has, so that a longer one is seen to be too long.
-    let mut eeprom = [0u8; 32_769];
-    read_eeprom(size, &mut eeprom);
-}
-
-fn read_eeprom(size: usize, eeprom: &mut [u8]) {
-    if size <= eeprom.len() {
-        let n = io::read_full(0, &mut eeprom[0..size]);
-        read_trace(n, eeprom);
-    } else {
-        usage();
-    }
-}
-
-fn read_trace(n: usize, eeprom: &mut [u8]) {
-    if n <= eeprom.len() {
-        play(&mut eeprom[0..n]);
-    }
-}
-
-fn play(eeprom: &mut [u8]) {
-    let mut trace = room();
-    let n = io::read_full(0, &mut trace);
-    play_first(n, &trace, eeprom);
-}
-
-// One byte more than the longest trace has, so that a longer one is seen to be too long.
-fn room() -> [u8; 4_194_305]
-    ensures { 4194305 ≡ length result }
-{
-    [0; 4_194_305]
-}
-
-fn play_first(n: usize, trace: &[u8], eeprom: &mut [u8]) {
-    if LONGEST < n {
-        io::write_all(2, b"replayed: the trace is over 4194304 bytes\n");
-        return;
-    }
-    if n <= trace.len() {
-        play_trace(&trace[0..n], eeprom);
-    }
-}
-
-fn play_trace(trace: &[u8], eeprom: &mut [u8]) {
-    let mut ram = [0u8; 32_768];
+    let mut ram = [0u8; Bytes::MEMORY.0];
     match replay::replay(trace, Fault::None, &mut ram, eeprom) {
-        Replayed::Refused(n) => print_refused(n),
-        Replayed::Finished(report) => print(report),
+        Ok(report) => print(rt, report),
+        Err(refusal) => println!(rt; "{refusal}"),
     }
 }
 
-fn print_refused(n: u8) {
-    say(b"refused ");
-    io::print_decimal(1, n as u64);
-    say(b"\n");
-}
-
-fn print(report: Report) {
-    let end = report.chip;
-    let nearest = report.nearest;
-    print_end(end);
-    print_margins(nearest);
-}
-
-fn print_end(end: ChipEnd) {
-    match end {
-        ChipEnd::Listening => say(b"listening\n"),
-        ChipEnd::Ended(ending) => print_ending(ending),
+// Where the chip ended, and how many loops the nearest 1 lay from the threshold, and the nearest 0.
+fn print(rt: &impl Print, report: Report) -> io::Result<()> {
+    match report.chip {
+        Some(ending) => println!(rt; "{ending}")?,
+        None => println!(rt; "listening")?,
     }
-}
-
-fn print_ending(ending: Ending) {
-    match ending {
-        Ending::Launched => say(b"launched\n"),
-        Ending::Booted => say(b"booted\n"),
-        Ending::Shut => say(b"shut\n"),
-        Ending::Off => say(b"off\n"),
-    }
-}
-
-// How many loops the nearest 1 lay from the threshold, and the nearest 0.
-fn print_margins(nearest: Nearest) {
-    let one = nearest.one;
-    let zero = nearest.zero;
-    say(b"margins ");
-    print_margin(one);
-    say(b" ");
-    print_margin(zero);
-    say(b"\n");
-}
-
-fn print_margin(margin: Margin) {
-    match margin {
-        Margin::None => say(b"none"),
-        Margin::At(distance) => {
-            io::print_decimal(1, distance.size());
-        }
-    }
-}
-
-fn say(words: &[u8]) {
-    io::write_all(1, words);
+    println!(rt; "margins {}", report.nearest)
 }

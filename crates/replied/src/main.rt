@@ -3,12 +3,14 @@
 #![tactic(auto)]
 
 mod calls;
-mod print;
 mod sessions;
 
-fn main() {
-    let mut image = [0u8; 44];
-    let n = io::read_full(0, &mut image);
-    sessions::all(&image[..n]);
-    calls::all();
+use std::io::{self, Read};
+
+fn main(rt: HostRuntime) -> io::Result<()> {
+    let mut image = Vec::new(rt.alloc());
+    // An input that cannot be read ends there.
+    let _ = rt.reader().take(44).read_to_end(&mut image);
+    sessions::print_all(&rt, image.as_slice())?;
+    calls::print_all(&rt)
 }

@@ -2,121 +2,73 @@
 // eight bytes that then stand there, and the numbers that are read in what was written.
 #![tactic(auto)]
 
-use numbers::{Found, Number};
-use trace::Wrote;
+use std::io;
 use units::Bytes;
 
 // The buffer's bytes.
 const ROOM: usize = 8;
 
-fn main() {
-    let none = [0u64; 0];
-    let zeros = [0, 0];
-    let odd = [5];
-    let small = [127, 128];
-    let middle = [300, 5];
-    let largest = [4_294_967_295, 0];
-    let large = [5, 4_294_967_296];
-    let large_and_odd = [u64::MAX, 5, 5];
-    case(&none, 0);
-    case(&none, 1);
-    case(&none, ROOM);
-    case(&zeros, 3);
-    case(&zeros, 2);
-    case(&odd, ROOM);
-    case(&odd, 0);
-    case(&small, 4);
-    case(&small, 3);
-    case(&middle, ROOM);
-    case(&middle, 4);
-    case(&middle, 3);
-    case(&largest, 7);
-    case(&largest, 6);
-    case(&large, ROOM);
-    case(&large, 0);
-    case(&large_and_odd, ROOM);
+fn main(rt: HostRuntime) -> io::Result<()> {
+    let cases: [(&[u64], usize); 17] = [
+        (&[], 0),
+        (&[], 1),
+        (&[], ROOM),
+        (&[0, 0], 3),
+        (&[0, 0], 2),
+        (&[5], ROOM),
+        (&[5], 0),
+        (&[127, 128], 4),
+        (&[127, 128], 3),
+        (&[300, 5], ROOM),
+        (&[300, 5], 4),
+        (&[300, 5], 3),
+        (&[4_294_967_295, 0], 7),
+        (&[4_294_967_295, 0], 6),
+        (&[5, 4_294_967_296], ROOM),
+        (&[5, 4_294_967_296], 0),
+        (&[u64::MAX, 5, 5], ROOM),
+    ];
+    for (numbers, room) in cases {
+        print_case(&rt, numbers, room)?;
+    }
+    Ok(())
 }
 
-fn case(numbers: &[u64], room: usize) {
-    say(b"list");
-    print_numbers(numbers);
-    say(b" room");
-    print_number(room as u64);
+fn print_case(rt: &impl Print, numbers: &[u64], room: usize) -> io::Result<()> {
+    print!(rt; "list")?;
+    for number in numbers {
+        print!(rt; " {number}")?;
+    }
+    print!(rt; " room {room}")?;
     let mut buffer = [170u8; ROOM];
-    write(numbers, room, &mut buffer);
-    say(b"\n");
-}
-
-// Writes into the first bytes of a buffer, and prints all of it.
-fn write(numbers: &[u64], room: usize, buffer: &mut [u8]) {
-    if room <= buffer.len() {
-        match trace::write(numbers, &mut buffer[0..room]) {
-            Wrote::Refused(n) => print_refused(n, buffer),
-            Wrote::Taken(length) => print_file(length.0, buffer),
-        }
+    let written = match buffer.get_mut(..room) {
+        Some(part) => trace::write(numbers, part),
+        None => return println!(rt; ""),
+    };
+    match written {
+        Ok(length) => print!(rt; ": length {}", length.0)?,
+        Err(refusal) => print!(rt; ": {refusal}")?,
     }
-}
-
-fn print_numbers(numbers: &[u64]) {
-    for i in 0..numbers.len() {
-        print_number(numbers[i]);
+    print!(rt; ": bytes")?;
+    for byte in &buffer {
+        print!(rt; " {byte}")?;
     }
-}
-
-fn print_refused(n: u8, buffer: &[u8]) {
-    say(b": refused");
-    print_byte(n);
-    print_bytes(buffer);
-}
-
-fn print_file(length: usize, buffer: &[u8]) {
-    say(b": length");
-    print_number(length as u64);
-    print_bytes(buffer);
-    if length <= buffer.len() {
-        print_read(&buffer[0..length]);
+    if let Ok(length) = written {
+        print_read(rt, buffer.get(..length.0).unwrap_or(&[]))?;
     }
-}
-
-fn print_bytes(buffer: &[u8]) {
-    say(b": bytes");
-    for i in 0..buffer.len() {
-        print_byte(buffer[i]);
-    }
-}
-
-fn print_byte(byte: u8) {
-    print_number(byte as u64);
+    println!(rt; "")
 }
 
 // The numbers after the mark: no more than there are bytes.
-fn print_read(file: &[u8]) {
-    say(b": reads");
+fn print_read(rt: &impl Print, file: &[u8]) -> io::Result<()> {
+    print!(rt; ": reads")?;
     let mut at = Bytes(1);
-    for _ in 0..file.len() {
-        at = print_next(file, at);
+    for _ in file {
+        let Ok(number) = reader::read(file, at) else {
+            break;
+        };
+        print!(rt; " {}", number.value)?;
+        at = number.next;
     }
-}
-
-// Prints the number at a place, and answers the place after it; where none stands, the same.
-fn print_next(file: &[u8], at: Bytes) -> Bytes {
-    match reader::read(file, at) {
-        Found::End => at,
-        Found::Bad => at,
-        Found::Value(number) => printed(number),
-    }
-}
-
-fn printed(number: Number) -> Bytes {
-    print_number(number.value);
-    number.next
-}
-
-fn print_number(n: u64) {
-    say(b" ");
-    io::print_decimal(1, n);
-}
-
-fn say(words: &[u8]) {
-    io::write_all(1, words);
+    Ok(())
 }

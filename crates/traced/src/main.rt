@@ -3,264 +3,110 @@
 // of a refusal.
 #![tactic(auto)]
 
-ghost use Rattle.std.specs.Prelude.{◌≡◌, length};
-
-use chip::{Chip, Played, Stepped};
+use chip::Chip;
 use eeprom::Fault;
-use figures::Figure;
-use host::{Begun, Host, Planned, Sent};
-use place::HostEnd;
+use host::Host;
 use receiver::Receiver;
+use std::alloc::{AllocError, Global};
 use std::env::Env;
-use trace::Wrote;
-use units::{Loops, Seen, Ticks};
+use std::io::{self, Read, Write};
+use units::{Bytes, Loops, Seen, Ticks};
 
 // No session has more pulses: 32,760 bytes, and every wait to its last pair.
 const PULSES: u32 = 264_362;
 
-// Room for the waits and lows of so many pulses.
-fn numbers() -> [u64; 528_724]
-    ensures { 528724 ≡ length result }
-{
-    [0; 528_724]
+// One byte more than the longest image has, so that a longer input is seen to be too long.
+const MOST: u64 = 32_761;
+
+fn main(rt: HostRuntime) -> io::Result<()> {
+    let (Some(t), Some(h), Some(p), Some(l), Some(command)) = (
+        argument(&rt, 1),
+        argument(&rt, 2),
+        argument(&rt, 3),
+        argument(&rt, 4),
+        argument(&rt, 5),
+    ) else {
+        return eprintln!(rt; "traced: five numbers are wanted, T H P LOOP COMMAND, and an image on standard input");
+    };
+    let mut image = Vec::new(rt.alloc());
+    // An input that cannot be read ends there.
+    let _ = rt.reader().take(MOST).read_to_end(&mut image);
+    match Host::start(t, h, p, command, image.as_slice()) {
+        Ok(host) => {
+            let numbers = measure(rt.alloc(), host, image.as_slice(), Clock { p, l })?;
+            write(&rt, numbers.as_slice())
+        }
+        Err(refusal) => println!(rt; "{refusal}"),
+    }
 }
 
-// Room for the file of so many numbers, where each has five groups.
-fn file() -> [u8; 2_643_621]
-    ensures { 2643621 ≡ length result }
-{
-    [0; 2_643_621]
-}
-
-fn main(rt: HostRuntime) {
-    let t = argument(&rt, 1);
-    let h = argument(&rt, 2);
-    let p = argument(&rt, 3);
-    let l = argument(&rt, 4);
-    let command = argument(&rt, 5);
-    let Figure::Number(t) = t else {
-        return usage();
-    };
-    let Figure::Number(h) = h else {
-        return usage();
-    };
-    let Figure::Number(p) = p else {
-        return usage();
-    };
-    let Figure::Number(l) = l else {
-        return usage();
-    };
-    let Figure::Number(command) = command else {
-        return usage();
-    };
-    // One byte more than the longest image has, so that a longer input is seen to be too long.
-    let mut image = [0u8; 32_761];
-    let n = io::read_full(0, &mut image);
-    plan(t, h, p, l, command, &image[..n]);
-}
-
-// An argument by its number. One that is missing, or too long for a figure, is none.
-fn argument(rt: &HostRuntime, i: usize) -> Figure {
+// An argument by its number. One that is missing, or too long for a figure, is none. It stands in each program: no promise could say what the
+// environment has, and a library's public functions have one.
+fn argument(rt: &HostRuntime, i: usize) -> Option<u32> {
     let mut text = [0u8; 20];
-    let n = rt.arg(i, &mut text).unwrap_or(0);
+    let n = rt.arg(i, &mut text).ok()?;
     figures::read(&text[..n])
 }
 
-fn usage() {
-    io::write_all(
-        2,
-        b"traced: five numbers are wanted, T H P LOOP COMMAND, and an image on standard input\n",
-    );
-}
-
-fn plan(t: u32, h: u32, p: u32, l: u32, command: u32, image: &[u8]) {
-    match Host::start(t, h, p, command, image) {
-        Begun::Refused(n) => print_refused(n),
-        Begun::Taken(host) => {
-            let mut numbers = numbers();
-            let mut ram = [0u8; 32_768];
-            let mut eeprom = [0u8; 32_768];
-            let n = measure(
-                fresh(host),
-                image,
-                p,
-                l,
-                &mut ram,
-                &mut eeprom,
-                &mut numbers,
-            );
-            write_first(n, &numbers);
-        }
-    }
-}
-
-// Host and chip between two pulses: the tick of the last rise, and what the chip replied to the last pulse.
+// How the time between two edges is measured: ticks of `p` ps, in loops of `l` ps.
 #[derive(Clone, Copy)]
-struct Joined {
-    host: Host,
-    chip: Chip,
-    rise: Ticks,
-    reply: Seen,
-}
-
-fn fresh(host: Host) -> Joined {
-    Joined {
-        host,
-        chip: Chip {
-            fault: Fault::None,
-            receiver: Receiver::FRESH,
-        },
-        rise: Ticks(0),
-        reply: Seen::Silence,
-    }
-}
-
-// Pulses until the host has ended: keeps the loops of the wait before each and of its low, and answers how many numbers that are.
-fn measure(
-    start: Joined,
-    image: &[u8],
+struct Clock {
     p: u32,
     l: u32,
-    ram: &mut [u8],
-    eeprom: &mut [u8],
-    numbers: &mut [u64],
-) -> usize {
-    let mut joined = start;
-    let mut n = 0;
-    while n < PULSES {
-        let host = joined.host;
-        let end = host.end();
-        if let HostEnd::Ended(_) = end {
+}
+
+impl Clock {
+    fn loops(self, from: Ticks, to: Ticks) -> Loops {
+        Ticks(to.0.wrapping_sub(from.0)).to_loops(self.p, self.l)
+    }
+}
+
+// Pulses until the host has ended: the loops of the wait before each and of its low. A pulse that the host refused would change nothing, and
+// a chip that has ended refuses its pulse and stays silent.
+fn measure(alloc: Global, start: Host, image: &[u8], clock: Clock) -> Result<Vec<u64>, AllocError> {
+    let mut numbers = Vec::new(alloc);
+    let mut ram = [0u8; Bytes::MEMORY.0];
+    let mut eeprom = [0u8; Bytes::MEMORY.0];
+    let mut host = start;
+    let mut chip = Chip {
+        fault: Fault::None,
+        receiver: Receiver::FRESH,
+    };
+    let mut rise = Ticks(0);
+    let mut reply = Seen::Silence;
+    for n in 0..PULSES {
+        if host.end().is_some() {
             break;
         }
-        joined = pulse(joined, n, image, p, l, ram, eeprom, numbers);
-        n += 1;
-    }
-    wait_place(n)
-}
-
-// Pulse n, sent and played; one that the host refused would change nothing.
-fn pulse(
-    joined: Joined,
-    n: u32,
-    image: &[u8],
-    p: u32,
-    l: u32,
-    ram: &mut [u8],
-    eeprom: &mut [u8],
-    numbers: &mut [u64],
-) -> Joined {
-    let host = joined.host;
-    let reply = joined.reply;
-    match host.step(image, seen(host, reply)) {
-        Planned::Refused(_) => joined,
-        Planned::Taken(sent) => {
-            let last = joined.rise;
-            let fall = sent.fall;
-            let rise = sent.rise;
-            let wait = waited(n, last, fall, p, l);
-            let low = lasted(fall, rise, p, l);
-            keep(numbers, wait_place(n), wait);
-            keep(numbers, low_place(n), low);
-            let chip = joined.chip;
-            listen(sent, chip, wait, low, ram, eeprom)
+        let seen = bits::sees(host.session.place, reply);
+        let Ok(sent) = host.step(image, seen) else {
+            continue;
+        };
+        // The first wait measures 0.
+        let wait = if n == 0 { Loops(0) } else { clock.loops(rise, sent.fall) };
+        let low = clock.loops(sent.fall, sent.rise);
+        numbers.push(u64::from(wait.0))?;
+        numbers.push(u64::from(low.0))?;
+        reply = Seen::Silence;
+        if let Ok(played) = chip.step(&mut ram, &mut eeprom, wait, low) {
+            chip = played.chip;
+            reply = played.reply;
         }
+        host = sent.host;
+        rise = sent.rise;
     }
+    Ok(numbers)
 }
 
-// A chip that has ended refuses the pulse, and stays silent.
-fn listen(
-    sent: Sent,
-    chip: Chip,
-    wait: Loops,
-    low: Loops,
-    ram: &mut [u8],
-    eeprom: &mut [u8],
-) -> Joined {
-    match chip.step(ram, eeprom, wait, low) {
-        Stepped::Refused(_) => met(sent, chip, Seen::Silence),
-        Stepped::Taken(played) => answered(sent, played),
-    }
-}
-
-fn answered(sent: Sent, played: Played) -> Joined {
-    let chip = played.chip;
-    let reply = played.reply;
-    met(sent, chip, reply)
-}
-
-fn met(sent: Sent, chip: Chip, reply: Seen) -> Joined {
-    let host = sent.host;
-    let rise = sent.rise;
-    Joined {
-        host,
-        chip,
-        rise,
-        reply,
-    }
-}
-
-// What the host sees in its next call.
-fn seen(host: Host, reply: Seen) -> Seen {
-    let session = host.session;
-    let place = session.place;
-    bits::sees(place, reply)
-}
-
-// The first wait measures 0.
-fn waited(n: u32, rise: Ticks, fall: Ticks, p: u32, l: u32) -> Loops {
-    if n == 0 {
-        return Loops(0);
-    }
-    lasted(rise, fall, p, l)
-}
-
-// The loops from one edge to the next.
-fn lasted(from: Ticks, to: Ticks, p: u32, l: u32) -> Loops {
-    Ticks(std::num::wrapping_sub_u64(to.0, from.0)).to_loops(p, l)
-}
-
-// Where the numbers of pulse n stand, the first being pulse 0.
-fn wait_place(n: u32) -> usize {
-    n as usize * 2
-}
-
-fn low_place(n: u32) -> usize {
-    n as usize * 2 + 1
-}
-
-fn keep(numbers: &mut [u64], at: usize, loops: Loops) {
-    if at < numbers.len() {
-        numbers[at] = loops.0 as u64;
-    }
-}
-
-fn write_first(n: usize, numbers: &[u64]) {
-    if n <= numbers.len() {
-        write(&numbers[0..n]);
-    }
-}
-
-fn write(numbers: &[u64]) {
-    let mut file = file();
+// Room for the mark, and five groups for each number.
+fn write(rt: &(impl Print + AllocGlobal), numbers: &[u64]) -> io::Result<()> {
+    let room = numbers.len().saturating_mul(5).saturating_add(1);
+    let mut file = vec![in rt.alloc(); 0u8; room]?;
     match trace::write(numbers, &mut file) {
-        Wrote::Refused(n) => print_refused(n),
-        Wrote::Taken(length) => say_first(length.0, &file),
+        Ok(length) => {
+            file.truncate(length.0);
+            io::writer(rt).write_all(file.as_slice())
+        }
+        Err(refusal) => println!(rt; "{refusal}"),
     }
-}
-
-fn say_first(n: usize, bytes: &[u8]) {
-    if n <= bytes.len() {
-        say(&bytes[0..n]);
-    }
-}
-
-fn print_refused(n: u8) {
-    say(b"refused ");
-    io::print_decimal(1, n as u64);
-    say(b"\n");
-}
-
-fn say(words: &[u8]) {
-    io::write_all(1, words);
 }

@@ -1,128 +1,90 @@
 // What a case says. It is a load of S by command 1, with the figures of 01's program, but for what its line says.
-use crate::{fed, reading, stepped, whole};
 use eeprom::Fault;
 use units::Bytes;
 
-// What a line may say, each by its place on the list of names.
-pub(crate) const T: u32 = 0;
+pub(crate) const T: &str = "t ";
 
-pub(crate) const H: u32 = 1;
+pub(crate) const H: &str = "h ";
 
-pub(crate) const P: u32 = 2;
+pub(crate) const P: &str = "p ";
 
-pub(crate) const COMMAND: u32 = 3;
+pub(crate) const COMMAND: &str = "command ";
 
-pub(crate) const LENGTH: u32 = 4;
+pub(crate) const LENGTH: &str = "length ";
 
-pub(crate) const RAM: u32 = 5;
+pub(crate) const RAM: &str = "ram of ";
 
-pub(crate) const EEPROM: u32 = 6;
+pub(crate) const EEPROM: &str = "eeprom of ";
 
-pub(crate) const BYTE: u32 = 7;
+pub(crate) const BYTE: &str = "byte ";
 
-pub(crate) const IS: u32 = 8;
+pub(crate) const IS: &str = "is ";
 
-const SENT: u32 = 9;
+pub(crate) const SENT: &str = "sent as ";
 
-pub(crate) const BYTE_0: u32 = 10;
+pub(crate) const BYTE_0: &str = "byte 0 sent as ";
 
-pub(crate) const BYTE_6: u32 = 11;
+pub(crate) const BYTE_6: &str = "byte 6 sent as ";
 
-const ACCEPTS: u32 = 12;
+const ACCEPTS: &str = "accepts ";
 
-const READS: u32 = 13;
+const READS: &str = "reads ";
 
-const AT: u32 = 14;
+const AT: &str = "at ";
 
-pub(crate) const PULSE: u32 = 15;
+pub(crate) const PULSE: &str = "pulse ";
 
-pub(crate) const WAIT: u32 = 16;
+pub(crate) const WAIT: &str = "wait ";
 
-pub(crate) const LOW: u32 = 17;
+pub(crate) const LOW: &str = "low ";
 
-pub(crate) const SEEN: u32 = 18;
+pub(crate) const SEEN: &str = "seen ";
 
-pub(crate) const TO: u32 = 19;
+pub(crate) const TO: &str = "to ";
 
-pub(crate) const STOPPED: u32 = 20;
+pub(crate) const STOPPED: &str = "stopped after ";
 
-pub(crate) const THRESHOLD: u32 = 21;
+pub(crate) const THRESHOLD: &str = "threshold ";
 
-pub(crate) const SIZE: u32 = 22;
+pub(crate) const SIZE: &str = "size ";
 
-pub(crate) const D: u32 = 23;
+pub(crate) const D: &str = "d ";
 
-pub(crate) const PHASES: u32 = 24;
+pub(crate) const PHASES: &str = "phases ";
 
-// A case with a threshold is a low that is read, and one with a size is fed to a chip. One with a pulse, or with a byte that is sent as
-// another, is stepped.
-pub(crate) fn run(line: &[u8]) {
-    io::write_all(1, line);
-    if says(line, THRESHOLD) {
-        return reading::case(line);
-    }
-    if says(line, SIZE) {
-        return fed::case(line);
-    }
-    if says(line, PULSE) {
-        return stepped::case(line);
-    }
-    if says(line, SENT) {
-        return stepped::case(line);
-    }
-    whole::case(line);
+// In place of a number that a case does not say. None is so large.
+const UNSAID: u64 = u64::MAX;
+
+// A case by its line.
+#[derive(Clone, Copy)]
+pub(crate) struct Case<'a> {
+    pub(crate) line: &'a [u8],
 }
 
-// The number behind a name of the list, cut to 32 bits.
-pub(crate) fn number(line: &[u8], name: u32, otherwise: u32) -> u32 {
-    (said(line, name, otherwise as u64) % 4_294_967_296) as u32
-}
-
-// Whether the line says a number there.
-pub(crate) fn says(line: &[u8], name: u32) -> bool {
-    said(line, name, u64::MAX) != u64::MAX
-}
-
-fn said(line: &[u8], name: u32, otherwise: u64) -> u64 {
-    let names: &[u8] = b"t \n\
-        h \n\
-        p \n\
-        command \n\
-        length \n\
-        ram of \n\
-        eeprom of \n\
-        byte \n\
-        is \n\
-        sent as \n\
-        byte 0 sent as \n\
-        byte 6 sent as \n\
-        accepts \n\
-        reads \n\
-        at \n\
-        pulse \n\
-        wait \n\
-        low \n\
-        seen \n\
-        to \n\
-        stopped after \n\
-        threshold \n\
-        size \n\
-        d \n\
-        phases \n";
-    cases::number(line, cases::line(names, name), otherwise)
-}
-
-// The number cut to a byte.
-pub(crate) fn byte(line: &[u8], name: u32, otherwise: u32) -> u8 {
-    (number(line, name, otherwise) % 256) as u8
-}
-
-pub(crate) fn fault(line: &[u8]) -> Fault {
-    if says(line, ACCEPTS) {
-        return Fault::Accepts(number(line, ACCEPTS, 0));
+impl<'a> Case<'a> {
+    // The number behind a name, cut to 32 bits.
+    pub(crate) fn number(self, name: &str, otherwise: u32) -> u32 {
+        let number = cases::number(self.line, name.as_bytes(), u64::from(otherwise));
+        (number % 4_294_967_296) as u32
     }
-    if says(line, READS) {
-        return Fault::Reads(byte(line, READS, 0), Bytes(number(line, AT, 0) as usize));
+
+    // The same cut to a byte.
+    pub(crate) fn byte(self, name: &str, otherwise: u8) -> u8 {
+        (self.number(name, u32::from(otherwise)) % 256) as u8
     }
-    Fault::None
+
+    // Whether the line says a number there.
+    pub(crate) fn says(self, name: &str) -> bool {
+        cases::number(self.line, name.as_bytes(), UNSAID) != UNSAID
+    }
+
+    pub(crate) fn fault(self) -> Fault {
+        if self.says(ACCEPTS) {
+            Fault::Accepts(self.number(ACCEPTS, 0))
+        } else if self.says(READS) {
+            Fault::Reads(self.byte(READS, 0), Bytes(self.number(AT, 0) as usize))
+        } else {
+            Fault::None
+        }
+    }
 }

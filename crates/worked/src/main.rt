@@ -6,41 +6,49 @@
 mod case;
 mod fed;
 mod print;
-mod reading;
 mod sample;
 mod stepped;
 mod whole;
 
-fn main() {
-    // One byte more than a table may have, so that a longer one is seen to be too long.
-    let mut table = [0u8; 32_769];
-    let n = io::read_full(0, &mut table);
-    if n < 32_769 {
-        play(&table[..n]);
-    } else {
-        print::word(print::TOO_LONG);
-        io::write_all(1, b"\n");
-    }
-}
+use case::Case;
+use std::io::{self, Read, Write};
 
-// No table has more lines than bytes. An empty line ends it.
-fn play(table: &[u8]) {
-    for n in 0..32_768 {
-        let line = cases::line(table, n);
-        if line.len() == 0 {
-            return;
+// The bytes of the longest table that is taken.
+const LONGEST: usize = 32_768;
+
+fn main(rt: HostRuntime) -> io::Result<()> {
+    let mut table = Vec::new(rt.alloc());
+    // An input that cannot be read ends there.
+    let _ = rt.reader().take(LONGEST as u64 + 1).read_to_end(&mut table);
+    if LONGEST < table.len() {
+        return println!(rt; "the table has more than 32768 bytes");
+    }
+    for line in table.split(|byte| *byte == b'\n') {
+        match line {
+            // An empty line ends it.
+            [] => break,
+            [b'#', _, ..] => {}
+            [b' ', _, case @ ..] => run(&rt, Case { line: case })?,
+            heading => {
+                io::writer(&rt).write_all(heading)?;
+                println!(rt; "")?;
+            }
         }
-        self::line(line);
     }
+    Ok(())
 }
 
-fn line(line: &[u8]) {
-    if line.len() < 2 {
-        return print::heading(line);
-    }
-    match line[0] {
-        b'#' => return,
-        b' ' => case::run(&line[2..]),
-        _ => print::heading(line),
+// A case with a threshold is a low that is read, and one with a size is fed to a chip. One with a pulse, or with a byte that is sent as
+// another, is stepped.
+fn run(rt: &impl Print, case: Case<'_>) -> io::Result<()> {
+    io::writer(rt).write_all(case.line)?;
+    if case.says(case::THRESHOLD) {
+        print::read(rt, case)
+    } else if case.says(case::SIZE) {
+        fed::run(rt, case)
+    } else if case.says(case::PULSE) || case.says(case::SENT) {
+        stepped::run(rt, case)
+    } else {
+        whole::run(rt, case)
     }
 }

@@ -1,6 +1,8 @@
 // The sample S, the figures of 01's program for it, and the memories that it is loaded onto.
 ghost use Rattle.std.specs.Prelude.{◌≡◌, length};
 
+use units::Bytes;
+
 // The 44-byte application of source document 001.
 pub(crate) const S: [u8; 44] = [
     0x00, 0xB4, 0xC4, 0x04, 0x6F, 0xCB, 0x10, 0x00, 0x2C, 0x00, 0x34, 0x00, 0x18, 0x00, 0x38, 0x00,
@@ -9,14 +11,10 @@ pub(crate) const S: [u8; 44] = [
 ];
 
 // The EEPROM before a load: S from byte 0, and 2 in each byte after it, so that a page of it is told from a page of a loaded RAM.
-pub(crate) fn eeprom() -> [u8; 32_768]
+pub(crate) fn eeprom() -> [u8; Bytes::MEMORY.0]
     ensures { 32768 ≡ length result }
 {
-    let mut eeprom = [2u8; 32_768];
-    let mut at = 0;
-    while at < 44 {
-        eeprom[at] = S[at];
-        at += 1;
-    }
+    let mut eeprom = [2u8; Bytes::MEMORY.0];
+    eeprom[..44].copy_from_slice(&S);
     eeprom
 }

@@ -1,12 +1,13 @@
 // A case in which host and chip are stepped side by side, a pulse at a time. What the chip measures goes by the case, and not by the ticks.
-use crate::case::{byte, number};
+use crate::case::Case;
 use crate::{case, print, sample, whole};
 use chip::Chip;
-use host::{Host, Planned};
+use host::Host;
 use load::Load;
 use place::{Phase, Place};
 use receiver::Receiver;
 use session::Session;
+use std::io;
 use ticks::PhaseTicks;
 use units::{Bytes, Loops, Seen, Ticks};
 
@@ -20,13 +21,11 @@ pub(crate) const ONE: u32 = 8;
 
 pub(crate) const ZERO: u32 = 17;
 
-// What the host sees by `seen silent`, which has no number; and where a case measures its pulses, what the chip replied.
+// What the host sees by `seen silent`, which has no number.
 const SILENT: u32 = 2;
 
-const REPLIED: u32 = 3;
-
 // The pulses that the case names, from the first to the last, counted from 1: the loops of the wait before each, and of its low as a 1 and
-// as a 0, which the chip measures; or what the host sees around it.
+// as a 0, which the chip measures; or what the host sees around it, where that is not what the chip replied.
 #[derive(Clone, Copy)]
 struct Named {
     first: u32,
@@ -34,7 +33,61 @@ struct Named {
     wait: u32,
     one: u32,
     zero: u32,
-    seen: u32,
+    seen: Option<Seen>,
+}
+
+impl Named {
+    fn of(case: Case<'_>) -> Named {
+        let first = case.number(case::PULSE, 0);
+        Named {
+            first,
+            last: case.number(case::TO, first),
+            wait: case.number(case::WAIT, WAIT),
+            one: case.number(case::LOW, ONE),
+            zero: case.number(case::LOW, ZERO),
+            seen: seen(case),
+        }
+    }
+
+    fn names(self, n: u32) -> bool {
+        self.first <= n && n <= self.last
+    }
+
+    fn wait(self, n: u32) -> Loops {
+        Loops(if self.names(n) { self.wait } else { WAIT })
+    }
+
+    fn low(self, n: u32, bit: bool) -> Loops {
+        if self.names(n) {
+            chosen(bit, self.one, self.zero)
+        } else {
+            chosen(bit, ONE, ZERO)
+        }
+    }
+
+    fn seen(self, n: u32, reply: Seen) -> Seen {
+        match self.seen {
+            Some(seen) if self.names(n) => seen,
+            _ => reply,
+        }
+    }
+}
+
+// Where a case measures its pulses, the host sees what the chip replied.
+fn seen(case: Case<'_>) -> Option<Seen> {
+    if case.says(case::WAIT) {
+        return None;
+    }
+    match case.number(case::SEEN, SILENT) {
+        0 => Some(Seen::Zero),
+        1 => Some(Seen::One),
+        SILENT => Some(Seen::Silence),
+        _ => None,
+    }
+}
+
+pub(crate) fn chosen(bit: bool, one: u32, zero: u32) -> Loops {
+    Loops(if bit { one } else { zero })
 }
 
 // Both sides once the pulses are over, and the tick of the last rise.
@@ -45,182 +98,78 @@ struct Stopped {
     rise: Ticks,
 }
 
-impl Stopped {
-    // The line of it, with the ticks of each phase where these are asked for.
-    fn print(self, phases: bool) {
-        let host = self.host;
-        let chip = self.chip;
-        print::number(print::PULSES, host.session.pulses as u64);
-        print::host(host.end());
-        print::chip(chip.end());
-        let receiver = chip.receiver;
-        let margins = receiver.margins;
-        print::margins(margins.nearest());
-        if phases {
-            print::number(print::TICKS, self.rise.0);
-            print::phases(host.phases);
-        }
-    }
-}
-
-impl Named {
-    fn of(line: &[u8]) -> Named {
-        let first = number(line, case::PULSE, 0);
-        Named {
-            first,
-            last: number(line, case::TO, first),
-            wait: number(line, case::WAIT, WAIT),
-            one: number(line, case::LOW, ONE),
-            zero: number(line, case::LOW, ZERO),
-            seen: seen(line),
-        }
-    }
-
-    fn names(self, n: u32) -> bool {
-        if n < self.first {
-            return false;
-        }
-        n <= self.last
-    }
-
-    fn wait(self, n: u32) -> Loops {
-        if self.names(n) {
-            return Loops(self.wait);
-        }
-        Loops(WAIT)
-    }
-
-    fn low(self, n: u32, bit: bool) -> Loops {
-        if self.names(n) {
-            return chosen(bit, self.one, self.zero);
-        }
-        chosen(bit, ONE, ZERO)
-    }
-
-    fn seen(self, n: u32, reply: Seen) -> Seen {
-        if !self.names(n) {
-            return reply;
-        }
-        let seen = self.seen;
-        match seen {
-            0 => Seen::Zero,
-            1 => Seen::One,
-            2 => Seen::Silence,
-            _ => reply,
-        }
-    }
-}
-
-fn seen(line: &[u8]) -> u32 {
-    if case::says(line, case::WAIT) {
-        return REPLIED;
-    }
-    number(line, case::SEEN, SILENT)
-}
-
-pub(crate) fn chosen(bit: bool, one: u32, zero: u32) -> Loops {
-    if bit {
-        return Loops(one);
-    }
-    Loops(zero)
-}
-
 // The memories are its own: the EEPROM holds S, which would boot, and each byte of the RAM is 1.
-pub(crate) fn case(line: &[u8]) {
-    let image = image(line);
-    let mut ram = [1u8; 32_768];
+pub(crate) fn run(rt: &impl Print, case: Case<'_>) -> io::Result<()> {
+    let mut ram = [1u8; Bytes::MEMORY.0];
     let mut eeprom = sample::eeprom();
-    let stopped = pulses(
-        Named::of(line),
-        number(line, case::STOPPED, MOST_PULSES),
-        host(line),
-        chip(line),
-        &image,
-        &mut ram,
-        &mut eeprom,
-    );
-    stopped.print(case::says(line, case::PHASES));
-    print::sums(&ram, &eeprom);
+    let end = pulses(case, &mut ram, &mut eeprom);
+    print!(rt; ": pulses {}", end.host.session.pulses)?;
+    if let Some(ending) = end.host.end() {
+        print!(rt; " host {ending}")?;
+    }
+    print::chip(rt, end.chip.end())?;
+    print::margins(rt, end.chip.receiver.margins.nearest())?;
+    // With the ticks of each phase, where these are asked for.
+    if case.says(case::PHASES) {
+        print!(rt; " ticks {}", end.rise.0)?;
+        print::phases(rt, end.host.phases)?;
+    }
+    print::sums(rt, &ram, &eeprom)
 }
 
-// S, with the bytes that are sent as others.
-fn image(line: &[u8]) -> [u8; 44] {
-    let mut image = sample::S;
-    image[0] = byte(line, case::BYTE_0, 0);
-    image[6] = byte(line, case::BYTE_6, 16);
-    image
-}
-
-fn pulses(
-    named: Named,
-    most: u32,
-    mut host: Host,
-    mut chip: Chip,
-    image: &[u8],
-    ram: &mut [u8],
-    eeprom: &mut [u8],
-) -> Stopped {
+fn pulses(case: Case<'_>, ram: &mut [u8], eeprom: &mut [u8]) -> Stopped {
+    let named = Named::of(case);
+    let image = image(case);
+    let mut host = host(case);
+    let mut chip = Chip {
+        fault: case.fault(),
+        receiver: Receiver::FRESH,
+    };
     let mut rise = Ticks(0);
     let mut reply = Seen::Silence;
-    let mut n = 0;
-    while n < most {
-        let step = host.step(image, named.seen(n, reply));
-        let Planned::Taken(sent) = step else {
+    for n in 0..case.number(case::STOPPED, MOST_PULSES) {
+        let Ok(sent) = host.step(&image, named.seen(n, reply)) else {
             break;
         };
         let bit = host.session.ones < sent.host.session.ones;
         host = sent.host;
         rise = sent.rise;
-        n += 1;
-        match chip.step(ram, eeprom, named.wait(n), named.low(n, bit)) {
-            chip::Stepped::Refused(_) => reply = Seen::Silence,
-            chip::Stepped::Taken(played) => {
-                chip = played.chip;
-                reply = played.reply;
-            }
+        reply = Seen::Silence;
+        if let Ok(played) = chip.step(ram, eeprom, named.wait(n + 1), named.low(n + 1, bit)) {
+            chip = played.chip;
+            reply = played.reply;
         }
     }
     Stopped { host, chip, rise }
 }
 
-// The host of S before its first pulse, and the chip before it.
-fn host(line: &[u8]) -> Host {
+// S, with the bytes that are sent as others.
+fn image(case: Case<'_>) -> [u8; 44] {
+    let mut image = sample::S;
+    image[0] = case.byte(case::BYTE_0, 0);
+    image[6] = case.byte(case::BYTE_6, 16);
+    image
+}
+
+// The host of S before its first pulse. Command 0 has no image.
+fn host(case: Case<'_>) -> Host {
+    let command = case.number(case::COMMAND, 1);
     Host {
-        settings: whole::settings(line),
-        session: session(line),
+        settings: whole::settings(case),
+        session: Session {
+            load: Load {
+                command,
+                length: Bytes(if command == 0 { 0 } else { 44 }),
+            },
+            place: Place {
+                phase: Phase::Calibration,
+                index: 0,
+            },
+            pulses: 0,
+            ones: 0,
+            zeros: 0,
+        },
         time: 0,
         phases: PhaseTicks::NONE,
-    }
-}
-
-fn session(line: &[u8]) -> Session {
-    let command = number(line, case::COMMAND, 1);
-    Session {
-        load: Load {
-            command,
-            length: length(command),
-        },
-        place: Place {
-            phase: Phase::Calibration,
-            index: 0,
-        },
-        pulses: 0,
-        ones: 0,
-        zeros: 0,
-    }
-}
-
-// Command 0 has no image.
-fn length(command: u32) -> Bytes {
-    if command == 0 {
-        return Bytes(0);
-    }
-    Bytes(44)
-}
-
-fn chip(line: &[u8]) -> Chip {
-    Chip {
-        fault: case::fault(line),
-        receiver: Receiver::FRESH,
     }
 }

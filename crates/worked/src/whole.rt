@@ -1,9 +1,12 @@
 // A case as a whole run.
 ghost use Rattle.std.specs.Prelude.{◌≡◌, ◌≤◌, length};
 
-use crate::case::{byte, number};
+use crate::case::Case;
 use crate::{case, print, sample};
+use joined::Report;
 use settings::Settings;
+use std::io;
+use units::Bytes;
 
 // The bench: t and h in ns, the tick p and the chip's loop in ps.
 const T: u32 = 8_600;
@@ -15,53 +18,64 @@ const P: u32 = 700_000;
 const L: u32 = 400_000;
 
 // The memories are its own: the EEPROM holds S, which would boot, and each byte of the RAM is 1.
-pub(crate) fn case(line: &[u8]) {
-    let image = image(line);
-    let mut ram = [1u8; 32_768];
+pub(crate) fn run(rt: &impl Print, case: Case<'_>) -> io::Result<()> {
+    let image = image(case);
+    let mut ram = [1u8; Bytes::MEMORY.0];
     let mut eeprom = sample::eeprom();
-    let length = size(line, case::LENGTH, 44);
-    let a = size(line, case::RAM, 32_768);
-    let b = size(line, case::EEPROM, 32_768);
-    let ram = &mut ram[..a];
-    let eeprom = &mut eeprom[..b];
-    let settings = settings(line);
-    let ran = joined::run(
+    let ram = &mut ram[..size(case, case::RAM, 32_768)];
+    let eeprom = &mut eeprom[..size(case, case::EEPROM, 32_768)];
+    let settings = settings(case);
+    match joined::run(
         settings.t,
         settings.h,
         settings.p,
-        number(line, case::COMMAND, 1),
-        &image[..length],
-        case::fault(line),
+        case.number(case::COMMAND, 1),
+        &image[..size(case, case::LENGTH, 44)],
+        case.fault(),
         L,
         ram,
         eeprom,
-    );
-    print::ran(ran, case::says(line, case::PHASES));
-    print::sums(ram, eeprom);
+    ) {
+        Ok(report) => print(rt, report, case.says(case::PHASES))?,
+        Err(refusal) => print!(rt; ": {refusal}")?,
+    }
+    print::sums(rt, ram, eeprom)
+}
+
+// With the ticks of each phase, where these are asked for.
+fn print(rt: &impl Print, report: Report, phases: bool) -> io::Result<()> {
+    print!(rt; ": pulses {} ones {} zeros {}", report.pulses, report.ones, report.zeros)?;
+    print!(rt; " ticks {} host {}", report.ticks.0, report.host)?;
+    print::chip(rt, report.chip)?;
+    print::margins(rt, report.nearest)?;
+    if phases {
+        print::phases(rt, report.phases)?;
+    }
+    Ok(())
 }
 
 // Made by hand: they need not be within their bounds.
-pub(crate) fn settings(line: &[u8]) -> Settings {
+pub(crate) fn settings(case: Case<'_>) -> Settings {
     Settings {
-        t: number(line, case::T, T),
-        h: number(line, case::H, H),
-        p: number(line, case::P, P),
+        t: case.number(case::T, T),
+        h: case.number(case::H, H),
+        p: case.number(case::P, P),
     }
 }
 
 // S with a byte of another value. Byte 0 of S is 0.
-pub(crate) fn image(line: &[u8]) -> [u8; 32_768]
+pub(crate) fn image(case: Case<'_>) -> [u8; Bytes::MEMORY.0]
     ensures { 32768 ≡ length result }
 {
     let mut image = sample::eeprom();
-    let at = (number(line, case::BYTE, 0) % 32_768) as usize;
-    image[at] = byte(line, case::IS, 0);
+    let at = (case.number(case::BYTE, 0) % 32_768) as usize;
+    image[at] = case.byte(case::IS, 0);
     image
 }
 
 // How many bytes of a memory, or of an image, are lent.
-fn size(line: &[u8], name: u32, otherwise: u32) -> usize
+fn size(case: Case<'_>, name: &str, otherwise: u32) -> usize
     ensures { result ≤ 32768 }
 {
-    (number(line, name, otherwise) % 32_769) as usize
+    (case.number(name, otherwise) % 32_769) as usize
 }
