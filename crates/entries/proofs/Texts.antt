@@ -2,13 +2,28 @@
 -- Assumes nothing.
 use mathlib.Core.Bool.{Bool, true, false, not, cond, ◌&&◌}
 use mathlib.Core.List.{List, [], ◌∷◌}
-use mathlib.Core.Path.{◌≡◌, refl, sym}
+use mathlib.Core.Path.{◌≡◌, refl, sym, ◌∙◌}
 use Prim.Native.Nat.{ℕ, zero, suc, ◌+◌, ◌-◌, ◌≤◌, ◌<◌}
 use native.Mathlib.Nat.{add-zero, zero-add}
 use native.Mathlib.Numerals.{add-one}
 use native.Mathlib.Omega.{arith}
 use lib.ListN.{length, get_or, take, drop, drop_of_length-le, length-drop}
 use lib.Seq.{drop-cons}
+use denote.Param.Members.{Mut}
+use denote.Ref.{Bor}
+use Rattle.std.proofs.Common.{Iter}
+use Rattle.std.proofs.iter.Yields.{fronts}
+use Rattle.std.proofs.lemmas.Iterator.{YieldsList-from_slice}
+use Rattle.std.proofs.lemmas.Iterator.Adapters.{YieldsList-from_skip}
+use Rattle.std.proofs.lemmas.Iterator.Consumers.{YieldsList-at, count_from_yields_List}
+use Rattle.std.proofs.lemmas.Iterator.Search.{YieldsList-from_take_while}
+use Rattle.std.proofs.lemmas.List.Folds.{length-prefix_len}
+use Rattle.std.specs.declared.iter.Skip.{Skip}
+use Rattle.std.specs.declared.iter.TakeWhile.{TakeWhile}
+use Rattle.std.specs.Fn.{CalledAt}
+use Rattle.std.specs.Slice.Iter.{iter_rest}
+use Rattle.std.specs.Iterator.{Drains}
+use Rattle.std.specs.Iterator.Adapters.{skip_source, skip_count, skip_steps, take_while_source, take_while_callee, take_while_done, take_while_steps}
 use Rattle.std.specs.List.{prefix_len, list_all}
 use Rattle.terms.specs.Choice.{when, both}
 use Rattle.terms.proofs.Tests.{when_true, when_false, when_elim}
@@ -44,6 +59,20 @@ pub names_tested : (name : List ℕ) → list_all may_be_named name ≡ is_name 
 unfolding is_name
 names_tested [] = refl
 names_tested (byte ∷ name) = named_more (may_be_named byte) _ _ (names_tested name)
+
+-- What `count` says of the bytes from a place on that pass a test.
+pub front_counted : {F : Type 0} {g : Mut F (Bor (Bor ℕ) × Unit {0}) Bool} {f : F} (test : ℕ → Bool) (text : List ℕ) (from : ℕ)
+    (i : Iter ℕ) (k : Skip (Iter ℕ)) (s : TakeWhile (Skip (Iter ℕ)) F) (r : ℕ)
+    → (xs : List (Bor ℕ)) × Drains (take_while_steps (skip_steps fronts) g) s xs × (r ≡ length xs)
+    → iter_rest i ≡ text → skip_source k ≡ i → skip_count k ≡ from
+    → take_while_source s ≡ k → take_while_callee s ≡ f → take_while_done s ≡ false
+    → ((x : Bor ℕ) (b : Bool) (q : F) → CalledAt g f x b q → (q ≡ f) × (b ≡ test x.now))
+    → r ≡ prefix_len test (drop from text)
+front_counted {g = g} test text from i k s r ran rest source count taken callee done calls =
+    count_from_yields_List s r ran
+    (YieldsList-from_take_while g test
+    (YieldsList-at taken (YieldsList-from_skip from (YieldsList-at source (YieldsList-from_slice text rest)) count)) callee done calls)
+    ∙ length-prefix_len test (drop from text)
 
 -- Where the content ends, seen from a place.
 unfoldable pub content_end : List ℕ → ℕ → ℕ

@@ -128,6 +128,7 @@ struct Bench {
 }
 
 impl Bench {
+    #[tactic(auto, using(counts::proofs::Sums::sum_is))]
     fn times_of(self, plan: Plan, trackers: u16) -> Times
         requires { plan_outside plan ≡ false }
         ensures { result ≡ times_of plan self.settings trackers }
@@ -180,12 +181,13 @@ impl Bench {
         ensures { (result ≡ lasting self.settings counts) × (result ≤ 3000000000000) }
     {
         let Settings { t, h, .. } = self.settings;
-        let lows = (counts.ones as u64 + 2 * counts.zeros as u64) * t as u64;
-        let spacers = counts.spacers as u64 * h as u64;
-        lows + spacers + counts.silent as u64 * h.max(LONGER) as u64
+        let lows = (u64::from(counts.ones) + 2 * u64::from(counts.zeros)) * u64::from(t);
+        let spacers = u64::from(counts.spacers) * u64::from(h);
+        lows + spacers + u64::from(counts.silent) * u64::from(h.max(LONGER))
     }
 
     // The same of all phases, as the old bench had it, in us.
+    #[tactic(auto, using(counts::proofs::Sums::sum_is))]
     fn old_sum(self, plan: Plan) -> u64
         requires { plan_outside plan ≡ false }
         ensures { (result ≡ sum_of (old_lasting self.settings) plan) × (result ≤ 30000000000000) }
@@ -210,10 +212,10 @@ impl Bench {
         ensures { (result ≡ old_lasting self.settings counts) × (result ≤ 3000000000000) }
     {
         let Settings { t, h, .. } = self.settings;
-        let ones = counts.ones as u64 * (t as u64 / 1_000);
-        let zeros = counts.zeros as u64 * (2 * t as u64 / 1_000);
-        let spacers = counts.spacers as u64 * (h as u64 / 1_000);
-        ones + zeros + spacers + counts.silent as u64 * (h.max(LONGER) as u64 / 1_000)
+        let ones = u64::from(counts.ones) * (u64::from(t) / 1_000);
+        let zeros = u64::from(counts.zeros) * (2 * u64::from(t) / 1_000);
+        let spacers = u64::from(counts.spacers) * (u64::from(h) / 1_000);
+        ones + zeros + spacers + u64::from(counts.silent) * (u64::from(h.max(LONGER)) / 1_000)
     }
 }
 

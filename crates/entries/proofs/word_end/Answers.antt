@@ -1,15 +1,10 @@
 -- `entries::word_end` counts as the library does.
 -- Assumes nothing.
 use mathlib.Core.Bool.{not}
-use Rattle.std.proofs.Common.{rules, tests}
-use Rattle.std.proofs.lemmas.Iterator.{YieldsList-from_slice}
-use Rattle.std.proofs.lemmas.Iterator.Adapters.{YieldsList-from_skip}
-use Rattle.std.proofs.lemmas.Iterator.Consumers.{YieldsList-at, count_from_yields_List}
-use Rattle.std.proofs.lemmas.Iterator.Search.{YieldsList-from_take_while}
-use Rattle.std.proofs.lemmas.List.Folds.{length-prefix_len}
 use lib.ListN.{drop}
+use Rattle.std.proofs.Common.{rules, tests}
 use Rattle.entries.specs.Entries.{is_blank, word_end}
-use Rattle.entries.proofs.Texts.{others_counted}
+use Rattle.entries.proofs.Texts.{others_counted, front_counted}
 use Rattle.entries.proofs.word_end.Goals as goal
 
 pub returns : goal.returns
@@ -17,9 +12,7 @@ unfolding word_end
 returns c =
     let text = c.args.text.now in
     let counted =
-    count_from_yields_List c.take_while.result _ c.count.ensures.ran
-    (YieldsList-from_take_while _ (λ b. not (is_blank b))
-    (YieldsList-at c.take_while.ensures.source (YieldsList-from_skip c.args.from (YieldsList-at c.skip.ensures.source (YieldsList-from_slice text cc)) c.skip.ensures.count))
-    c.take_while.ensures.closure c.take_while.ensures.done (λ x b q k. search (rules, tests)))
+    front_counted (λ b. not (is_blank b)) text c.args.from _ _ c.take_while.result _ c.count.ensures.ran c.iter.ensures.rest c.skip.ensures.source
+    c.skip.ensures.count c.take_while.ensures.source c.take_while.ensures.closure c.take_while.ensures.done (λ x b q k. search (rules, tests))
     in
-    rw (counted, length-prefix_len (λ b. not (is_blank b)) (drop c.args.from text), others_counted (drop c.args.from text))
+    rw (counted, others_counted (drop c.args.from text))

@@ -1,7 +1,5 @@
--- `Bench::old_sum` adds the ten phases as the old bench had them.
+-- `Bench::old_sum`: no count of a phase is outside, since none of the plan is.
 -- Assumes nothing.
-use Rattle.counts.proofs.Sums.{sum_is}
-use Rattle.times.specs.Times.{old_lasting}
 use Rattle.times.proofs.Bounds.{plan_within}
 use Rattle.times.proofs.Bench.old_sum.Goals as goal
 
@@ -34,23 +32,3 @@ old_lasting-requires-9 c = (plan_within c.args.plan c.requires).programming
 
 pub old_lasting-requires-10 : goal.old_lasting-requires-10
 old_lasting-requires-10 c = (plan_within c.args.plan c.requires).verification
-
-pub returns : goal.returns
-returns c =
-    let a = c.args in (
-      rw (
-        c.sum.ensures.0,
-        c.old_lasting.ensures.0,
-        c.old_lasting-2.ensures.0,
-        c.old_lasting-3.ensures.0,
-        c.old_lasting-4.ensures.0,
-        c.old_lasting-5.ensures.0,
-        c.old_lasting-6.ensures.0,
-        c.old_lasting-7.ensures.0,
-        c.old_lasting-8.ensures.0,
-        c.old_lasting-9.ensures.0,
-        c.old_lasting-10.ensures.0,
-        sum_is (old_lasting a.self.settings) a.plan,
-      ),
-      c.sum.ensures.1,
-    )

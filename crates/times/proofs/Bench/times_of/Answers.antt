@@ -1,7 +1,5 @@
--- `Bench::times_of` has each phase, their sums, and those of all trackers.
+-- `Bench::times_of`: no count of a phase is outside, since none of the plan is.
 -- Assumes nothing.
-use Rattle.counts.proofs.Sums.{sum_is}
-use Rattle.times.specs.Times.{lasting}
 use Rattle.times.proofs.Bounds.{plan_within}
 use Rattle.times.proofs.Bench.times_of.Goals as goal
 
@@ -34,24 +32,3 @@ lasting-programming-requires c = (plan_within c.args.plan c.requires).programmin
 
 pub lasting-verification-requires : goal.lasting-verification-requires
 lasting-verification-requires c = (plan_within c.args.plan c.requires).verification
-
-pub returns : goal.returns
-returns c =
-    let a = c.args in
-    rw (
-      c.for_all-2.ensures,
-      c.for_all.ensures,
-      c.old_sum-old_one.ensures.0,
-      c.sum-one.ensures.0,
-      c.lasting-calibration.ensures.0,
-      c.lasting-handshake.ensures.0,
-      c.lasting-connection.ensures.0,
-      c.lasting-version.ensures.0,
-      c.lasting-command.ensures.0,
-      c.lasting-size.ensures.0,
-      c.lasting-image.ensures.0,
-      c.lasting-ram.ensures.0,
-      c.lasting-programming.ensures.0,
-      c.lasting-verification.ensures.0,
-      sum_is (lasting a.self.settings) a.plan,
-    )
