@@ -2,8 +2,8 @@
 // bench/host.rs is the same program in Rust.
 #![tactic(auto)]
 
-use host::{Begun, Host, Planned};
-use place::{HostEnd, Phase, Place};
+use host::Host;
+use place::{Phase, Place};
 use ticks::PhaseTicks;
 use units::{Seen, Ticks};
 
@@ -25,8 +25,8 @@ fn main() {
 
 fn plan(image: &[u8; 32_760]) {
     match Host::start(8_600, 8_600, 700_000, 1, image) {
-        Begun::Refused(n) => line(b"refused ", n as u64),
-        Begun::Taken(host) => {
+        Err(refusal) => line(b"refused ", u64::from(refusal.number())),
+        Ok(host) => {
             let start = Progress {
                 host,
                 rise: Ticks(0),
@@ -47,8 +47,8 @@ fn print(end: Progress) {
     line(b"edges ", end.edges);
     print_phases(host.phases);
     match host.end() {
-        HostEnd::Going => say(b"host going on\n"),
-        HostEnd::Ended(ending) => line(b"host ", ending.number() as u64),
+        None => say(b"host going on\n"),
+        Some(ending) => line(b"host ", u64::from(ending.number())),
     }
 }
 
@@ -81,8 +81,8 @@ fn one(progress: Progress, image: &[u8]) -> Progress {
     let session = host.session;
     let place = session.place;
     match host.step(image, reply(place)) {
-        Planned::Refused(_) => progress,
-        Planned::Taken(sent) => {
+        Err(_) => progress,
+        Ok(sent) => {
             let host = sent.host;
             let rise = sent.rise;
             let both = std::num::wrapping_add_u64(sent.fall.0, rise.0);
