@@ -9,12 +9,13 @@ use native.Mathlib.Numerals.{add-one}
 use native.Mathlib.Omega.{arith}
 use borrow.Author.Tests.{le-leb, lt-leb, eq-eqb, ne_eqb, eqb-false}
 use lib.Dec.{eqb, ltb}
+use Rattle.std.specs.Prelude.{Ok, Err}
 use lib.ListN.{length, get_or, drop, length-drop, drop_of_length-le}
 use lib.Seq.{drop-cons}
 use Rattle.terms.specs.Choice.{when}
 use Rattle.terms.proofs.Tests.{when_true, when_false}
 use Rattle.numbers.specs.Numbers.{Reading, found, bad, above, longer, number, below, number_in, placed, limited, number_at}
-use Rattle.numbers.specs.declared.Found.TheVariants.{Value, End, Bad}
+use Rattle.numbers.specs.declared.NoNumber.TheVariants.{End, Bad}
 use Rattle.numbers.proofs.Back.{number_one, number_more}
 
 -- Groups that are worth `value`, below what is read after them.
@@ -52,10 +53,6 @@ number_none : (g : ℕ) → number g [] ≡ bad
 unfolding number
 number_none zero = refl
 number_none (suc g) = refl
-
-pow_some : (n : ℕ) → 0 < 128 ^ n
-pow_some zero = omega arith
-pow_some (suc n) = let p = pow-suc 128 n in let q = pow_some n in omega (arith, p, q)
 
 module _ (g : ℕ) (trace : List ℕ) (at : ℕ) where
   -- What a loop that reads group after group has at each turn.
@@ -96,22 +93,6 @@ module _ (g : ℕ) (trace : List ℕ) (at : ℕ) where
         omega (arith, a, b, k.fits)
 
     module _ (some : 0 < left) where
-      pub going_room : scale * 128 ≤ 128 ^ g
-      going_room =
-          let one : left - 1 + 1 ≡ left = omega arith in
-          let p : 128 ^ left ≡ 128 ^ (left - 1) * 128 = ap (λ (n : ℕ). 128 ^ n) (sym one ∙ add-one (left - 1)) ∙ pow-suc 128 (left - 1) in
-          let q : 0 < 128 ^ (left - 1) = pow_some (left - 1) in
-          let r : 128 ≤ 128 ^ left = omega arith in
-          let s : scale * 128 ≤ scale * 128 ^ left = mul-le-mul_left scale r in
-          omega (arith, s, k.whole)
-
-      -- So it is below what so many groups can be.
-      pub going_part : (group : ℕ) → group < 128 → group * scale + value < 128 ^ g
-      going_part group h =
-          let p = part_fits group h in
-          let r = going_room in
-          omega (arith, p, r)
-
       module _ (group : ℕ) (h : next < length trace) (e : group ≡ get_or trace next 0) where
         split : drop next trace ≡ group ∷ drop (next + 1) trace
         split = rw (add-one, e) (drop-cons trace next 0 h)
@@ -149,18 +130,18 @@ module _ (g : ℕ) (trace : List ℕ) (at : ℕ) where
 
 -- What is answered.
 placed_below : (v size : ℕ) (rest : List ℕ) (t : Bool) → placed size (when t (found v rest) bad)
-    ≡ when t (Value (record { value = v; next = record { 0 = size - length rest } })) Bad
+    ≡ when t (Ok (record { value = v; next = record { 0 = size - length rest } })) (Err Bad)
 unfolding when
 placed_below v size rest true = refl
 placed_below v size rest false = refl
 
 module _ (g m : ℕ) (trace : List ℕ) (at : ℕ) where
-  pub at_end : length trace ≤ at → End ≡ number_at g m trace at
+  pub at_end : length trace ≤ at → Err End ≡ number_at g m trace at
   unfolding number_at
   at_end h = sym (when_true _ _ (le-leb (length trace) at h))
 
   module _ (h : at < length trace) where
-    pub at_bad : number g (drop at trace) ≡ bad → Bad ≡ number_at g m trace at
+    pub at_bad : number g (drop at trace) ≡ bad → Err Bad ≡ number_at g m trace at
     unfolding number_at number_in
     at_bad e = sym (when_false _ _ (lt-leb (length trace) at h) ∙ ap (λ (x : Reading). placed (length trace) (below m x)) e)
 

@@ -1,10 +1,11 @@
 -- 02, "Three": "Numbers are in groups of seven bits, lowest group first, top bit set when more follow, shortest form only, at most five
 -- groups and below 2^32."
 -- Assumes nothing.
-use Rattle.std.specs.Prelude.{List, [], ◌∷◌, ℕ, zero, suc, ◌+◌, ◌-◌, ◌*◌, ◌/◌, ◌%◌, eqb, ltb, leb, length, drop}
+use Rattle.std.specs.Prelude.{Result, Ok, Err, List, [], ◌∷◌, ℕ, zero, suc, ◌+◌, ◌-◌, ◌*◌, ◌/◌, ◌%◌, eqb, ltb, leb, length, drop}
 use Rattle.terms.specs.Choice.{when}
-use Rattle.numbers.specs.declared.Found.{Found}
-use Rattle.numbers.specs.declared.Found.TheVariants.{End, Bad, Value}
+use Rattle.numbers.specs.declared.Number.{Number}
+use Rattle.numbers.specs.declared.NoNumber.{NoNumber}
+use Rattle.numbers.specs.declared.NoNumber.TheVariants.{End, Bad}
 
 -- At most five groups.
 abbrev pub groups : ℕ
@@ -48,14 +49,14 @@ written (suc g) v = when (ltb v 128) (v ∷ []) ((v % 128 + 128) ∷ written g (
 
 -- A number, and the place after it in a trace of so many bytes, of which the bytes after it are the last (`number_tail` in
 -- proofs/Tails.antt).
-abbrev pub placed : ℕ → Reading → Found
-placed size (found v rest) = Value (record { value = v; next = record { 0 = size - length rest } })
-placed size bad = Bad
+abbrev pub placed : ℕ → Reading → Result Number NoNumber
+placed size (found v rest) = Ok (record { value = v; next = record { 0 = size - length rest } })
+placed size bad = Err Bad
 
 -- What stands at a place of a trace.
-unfoldable pub number_at : ℕ → ℕ → List ℕ → ℕ → Found
-number_at g m trace at = when (leb (length trace) at) End (placed (length trace) (number_in g m (drop at trace)))
+unfoldable pub number_at : ℕ → ℕ → List ℕ → ℕ → Result Number NoNumber
+number_at g m trace at = when (leb (length trace) at) (Err End) (placed (length trace) (number_in g m (drop at trace)))
 
 -- A number whose groups are read, and which ends before a place: as the code finds it (`at_found` in proofs/Going.antt).
-abbrev pub limited : ℕ → ℕ → ℕ → Found
-limited m v next = when (ltb v m) (Value (record { value = v; next = record { 0 = next } })) Bad
+abbrev pub limited : ℕ → ℕ → ℕ → Result Number NoNumber
+limited m v next = when (ltb v m) (Ok (record { value = v; next = record { 0 = next } })) (Err Bad)

@@ -13,73 +13,57 @@ pub const GROUPS: u32 = 5;
 pub const BOUND: u64 = 4_294_967_296;
 
 // A number, and the place after it.
-#[derive(Clone, Copy)]
+#[derive(Clone, Copy, PartialEq, Eq, Debug)]
 pub struct Number {
     pub value: u64,
     pub next: Bytes,
 }
 
-// What stands at a place: nothing more, no good number, or one.
-#[derive(Clone, Copy)]
-pub enum Found {
+// Why a place has no number: nothing more stands there, or no good one.
+#[derive(Clone, Copy, PartialEq, Eq, Debug)]
+pub enum NoNumber {
     End,
     Bad,
-    Value(Number),
 }
 
 // The number at a place of a trace. At its end and past it nothing stands.
-pub fn number_at(trace: &[u8], at: Bytes) -> Found
+pub fn number_at(trace: &[u8], at: Bytes) -> Result<Number, NoNumber>
     ensures { result ≡ number_at groups bound trace.now at.0 }
 {
     let at = at.0;
     if trace.len() <= at {
-        return Found::End;
+        return Err(NoNumber::End);
     }
-    let first = wide(trace[at]);
+    let first = u64::from(trace[at]);
     if first < 128 {
-        return Found::Value(Number {
-            value: first,
-            next: Bytes(at + 1),
-        });
+        return below(first, at + 1);
     }
     let mut value = first - 128;
     let mut scale = 128;
-    let mut next = at + 1;
-    let mut left = GROUPS - 1;
-    while 0 < left {
-        if trace.len() <= next {
-            return Found::Bad;
-        }
-        let group = wide(trace[next]);
+    for next in at + 1..trace.len().min(at + GROUPS as usize) {
+        let group = u64::from(trace[next]);
         if group == 0 {
-            return Found::Bad;
+            return Err(NoNumber::Bad);
         }
         if group < 128 {
             return below(value + group * scale, next + 1);
         }
         value += (group - 128) * scale;
         scale *= 128;
-        next += 1;
-        left -= 1;
     }
-    Found::Bad
+    Err(NoNumber::Bad)
 }
 
 // A number that was read, unless it is too large.
-fn below(value: u64, next: usize) -> Found
+#[tactic(auto, unfolding(terms::specs::Choice::when))]
+fn below(value: u64, next: usize) -> Result<Number, NoNumber>
     ensures { result ≡ limited bound value next }
 {
-    if value < BOUND {
-        return Found::Value(Number {
-            value,
-            next: Bytes(next),
-        });
+    if BOUND <= value {
+        return Err(NoNumber::Bad);
     }
-    Found::Bad
-}
-
-fn wide(x: u8) -> u64
-    ensures { result ≡ x }
-{
-    x as u64
+    Ok(Number {
+        value,
+        next: Bytes(next),
+    })
 }

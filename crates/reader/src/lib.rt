@@ -4,7 +4,7 @@
 ghost use Rattle.std.specs.Prelude.{◌≡◌};
 ghost use Rattle.numbers.specs.Numbers.{groups, bound, number_at};
 
-use numbers::Found;
+use numbers::{NoNumber, Number};
 use units::Bytes;
 
 // A lent trace, and a place in it.
@@ -23,7 +23,7 @@ impl<'a> Reader<'a> {
     }
 
     // The number at its place.
-    pub fn next(self) -> Found
+    pub fn next(self) -> Result<Number, NoNumber>
         ensures { result ≡ number_at groups bound self.entry.trace.now self.entry.at.0 }
     {
         numbers::number_at(self.trace, self.at)
@@ -41,7 +41,7 @@ impl<'a> Reader<'a> {
 }
 
 // The number at a place of a trace, by a reader.
-pub fn read(trace: &[u8], at: Bytes) -> Found
+pub fn read(trace: &[u8], at: Bytes) -> Result<Number, NoNumber>
     ensures { result ≡ number_at groups bound trace.now at.0 }
 {
     Reader::new(trace, at).next()
