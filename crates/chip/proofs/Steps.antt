@@ -6,12 +6,10 @@ use mathlib.Core.Path.{◌≡◌, refl, sym, ap, ◌∙◌}
 use Prim.Native.Nat.{ℕ}
 use Rattle.terms.specs.Refusals.{Answer, refused, taken, first, Given}
 use Rattle.terms.proofs.Refusals.{Clear, not_both, refused_exactly, clear_taken, taken_exactly}
-use Rattle.units.specs.Line.{told}
-use Rattle.eeprom.specs.declared.Done.{Done}
 use Rattle.receiver.specs.Hears.{hears}
 use Rattle.receiver.specs.declared.Received.{Received}
-use Rattle.chip.specs.Step.{step_rows, Reply, Left, left, after, played, unless_refused, pulse, chip_step}
-use Rattle.chip.specs.Work.{worked, done}
+use Rattle.chip.specs.Step.{step_rows, Reply, Left, left, after, unless_refused, pulse, chip_step}
+use Rattle.chip.specs.Work.{done}
 use Rattle.chip.specs.declared.Chip.{Chip}
 
 module _ (c : Chip) (ram eeprom : List ℕ) (wait low : ℕ) where
@@ -24,18 +22,6 @@ module _ (c : Chip) (ram eeprom : List ℕ) (wait low : ℕ) where
   unfolding chip_step
   step_played p =
       ap (unless_refused ram eeprom) (sym (clear_taken (pulse c ram eeprom (hears c.receiver wait low)) (step_rows c ram eeprom) p))
-
-  -- The same, as the code plays it: the pulse is heard, its work done, and the record settled.
-  pub step_done : (h : Received) (d : Done) (x : Chip) (ram' eeprom' : List ℕ)
-      → x ≡ after h d.fault d.good → worked d ram' eeprom' ≡ done c.fault h.heard.event ram eeprom → h ≡ hears c.receiver wait low
-      → taken (pulse c ram eeprom h) ≡ first (step_rows c ram eeprom) (pulse c ram eeprom h)
-      → left (taken (record { chip = x; reply = told h.heard.reply })) ram' eeprom' ≡ chip_step c ram eeprom wait low
-  unfolding chip_step
-  step_done h d x ram' eeprom' settled work heard e =
-      ap (λ (y : Chip). left (taken (record { chip = y; reply = told h.heard.reply })) ram' eeprom') settled
-      ∙ ap (played h) work
-      ∙ ap (unless_refused ram eeprom) e
-      ∙ ap (λ (g : Received). unless_refused ram eeprom (first (step_rows c ram eeprom) (pulse c ram eeprom g))) heard
 
 -- The reply of an answer, or another where it was refused.
 abbrev reply_of : Reply → Answer Reply → Reply

@@ -6,6 +6,8 @@ use crate::{Event, Heard, Listener};
 use phases::{Acknowledgement, Ending, Phase};
 use units::{Longs, Seen};
 
+// The three `read_` are one `if` each. One function for them would take both outcomes as closures, and its clauses on those would be longer
+// than these bodies.
 impl Listener {
     #[tactic(auto, unfolding(terms::specs::Choice::when, crate::specs::Heard::read_command))]
     pub(crate) fn read_command(self, bits: u8, so_far: u32) -> Heard

@@ -2,7 +2,7 @@
 #![tactic(auto)]
 
 ghost use Rattle.std.specs.Prelude.{◌≡◌};
-ghost use Rattle.margins.specs.Margins.{margins_outside, nearest, nearest_one, nearest_zero, reads_bit, told, told_margin, with_bit, with_pulse};
+ghost use Rattle.margins.specs.Margins.{margins_outside, nearest, reads_bit, told, with_bit, with_pulse};
 
 use line::Read;
 use phases::Phase;
@@ -98,28 +98,15 @@ impl Margins {
     }
 
     // The nearest low on each side.
+    #[tactic(auto, unfolding(terms::specs::Choice::when, crate::specs::Margins::nearest_one, crate::specs::Margins::nearest_zero))]
     pub fn nearest(self) -> Nearest
         ensures { told result ≡ nearest self }
     {
         Nearest {
-            one: nearest_one(self.one),
-            zero: nearest_zero(self.zero),
+            one: (NO_ONE < self.one).then_some(self.one),
+            zero: (self.zero < NO_ZERO).then_some(self.zero),
         }
     }
-}
-
-#[tactic(auto, unfolding(terms::specs::Choice::when, crate::specs::Margins::nearest_one))]
-fn nearest_one(one: Distance) -> Option<Distance>
-    ensures { told_margin result ≡ nearest_one one.0 }
-{
-    (NO_ONE < one).then_some(one)
-}
-
-#[tactic(auto, unfolding(terms::specs::Choice::when, crate::specs::Margins::nearest_zero))]
-fn nearest_zero(zero: Distance) -> Option<Distance>
-    ensures { told_margin result ≡ nearest_zero zero.0 }
-{
-    (zero < NO_ZERO).then_some(zero)
 }
 
 // Whether a timely pulse is read as a bit: calibration lows and a reply's pulses are not.
