@@ -5,6 +5,7 @@ ghost use Rattle.std.specs.Prelude.{◌≡◌, ◌≤◌};
 ghost use Rattle.cases.specs.Cases.{line_end, next_line, line_start, line_bytes, line_place, behind, starts_with_digit, grown, value_from, number};
 
 // Line n of a text, counted from 0, as a part of it. Past the last line it is empty.
+#[tactic(auto, using(crate::proofs::Ends::end_behind, crate::proofs::Ends::end_within, crate::proofs::Ends::start_within))]
 pub fn line<'a>(text: &'a [u8], n: u32) -> &'a [u8]
     ensures result_value { result.now ≡ line_bytes text.now n }
     ensures ref_ptr_value { result.ref_ptr ≡ line_place text.entry.ref_ptr text.now n }

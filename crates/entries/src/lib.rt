@@ -56,6 +56,7 @@ pub fn read(line: &[u8]) -> Result<Option<Bench>, Cause>
 }
 
 // Word n of a line, counted from 0, as a part of it; empty where it has no such word.
+#[tactic(auto, using(crate::proofs::Texts::end_behind, crate::proofs::Texts::end_within, crate::proofs::Texts::start_within))]
 pub fn word<'a>(line: &'a [u8], n: u32) -> &'a [u8]
     ensures result_value { result.now ≡ word_bytes line.now n }
     ensures ref_ptr_value { result.ref_ptr ≡ word_place line.entry.ref_ptr line.now n }
