@@ -1,2 +1,3 @@
 pub mod Stands
 pub mod Unique
+pub mod Unseen

@@ -11,14 +11,33 @@ use place::{Phase, Place};
 use units::Seen;
 
 // The place after the pulse at `place`. What was seen around the pulse before it, `seen`, counts only where this one is a pair's second.
-#[tactic(auto, using(terms::proofs::Refusals::walk), unfolding(crate::specs::Follow::next))]
+#[tactic(auto, using(crate::proofs::Unseen::unseen))]
 pub fn next(place: Place, load: Load, seen: Seen) -> Place
     ensures { result ≡ next load place.phase place.index seen }
 {
-    if bits::pair_bit(place.index) {
-        return following::onward(place, load);
+    match place.phase {
+        Phase::Calibration => following::onward(place, load),
+        Phase::Handshake => following::onward(place, load),
+        Phase::Connection => of_pair(place, load, seen),
+        Phase::Version(_) => of_pair(place, load, seen),
+        Phase::Command => following::onward(place, load),
+        Phase::Zeros => following::onward(place, load),
+        Phase::Size => following::onward(place, load),
+        Phase::Image => following::onward(place, load),
+        Phase::Wait(_) => of_pair(place, load, seen),
+        Phase::Ended(_) => following::onward(place, load),
     }
-    following::after_pair(place, load, seen)
+}
+
+// A pulse of a pair: what was seen counts at the second.
+#[tactic(auto, using(terms::proofs::Refusals::walk), unfolding(crate::specs::Follow::next))]
+fn of_pair(at: Place, load: Load, seen: Seen) -> Place
+    ensures { result ≡ next load at.phase at.index seen }
+{
+    if bits::pair_bit(at.index) {
+        return following::onward(at, load);
+    }
+    following::after_pair(at, load, seen)
 }
 
 // The place after the pulse at `place`, where what was seen does not count: the phase's next, or after its last the first of what follows.

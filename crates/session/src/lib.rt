@@ -81,11 +81,8 @@ impl Session {
     {
         self.place = place;
         self.pulses += 1;
-        if bit {
-            self.ones += 1;
-        } else {
-            self.zeros += 1;
-        }
+        self.ones += u32::from(bit);
+        self.zeros += u32::from(!bit);
         self
     }
 }

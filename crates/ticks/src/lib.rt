@@ -66,12 +66,12 @@ impl PhaseTicks {
     pub fn with_pulse(self, place: Place, spacer: Ticks, low: Ticks) -> PhaseTicks
         ensures { result ≡ with_pulse self place.phase place.index spacer.0 low.0 }
     {
-        let holder = if place.index == 0 {
-            before(place.phase)
-        } else {
-            place.phase
-        };
-        self.added(holder, spacer).added(place.phase, low)
+        if place.index == 0 {
+            return self
+                .added(before(place.phase), spacer)
+                .added(place.phase, low);
+        }
+        self.added(place.phase, spacer).added(place.phase, low)
     }
 
     // More ticks for a phase.
