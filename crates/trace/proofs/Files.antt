@@ -12,8 +12,9 @@ use lib.Seq.{drop-drop}
 use Rattle.terms.proofs.Tests.{when_false}
 use Rattle.numbers.specs.Numbers.{Reading, found, bad, number_in, placed, number_at}
 use Rattle.numbers.specs.declared.Number.{Number}
-use Rattle.numbers.specs.declared.Found.{Found}
-use Rattle.numbers.specs.declared.Found.TheVariants.{End, Bad, Value}
+use Rattle.numbers.specs.declared.NoNumber.{NoNumber}
+use Rattle.numbers.specs.declared.NoNumber.TheVariants.{End, Bad}
+use Rattle.std.specs.Prelude.{Result, Ok, Err}
 use Rattle.numbers.proofs.Tails.{in_tail}
 use Rattle.trace.specs.Traces.{good, faulty, after, onward, up_to, numbers_in}
 
@@ -63,7 +64,7 @@ module _ (g m : ℕ) where
       pub forward : at < n.next.0
       pub inside : n.next.0 ≤ length trace
 
-    found_read : (n : Number) (x : Reading) → number_in g m (drop at trace) ≡ x → placed (length trace) x ≡ Value n → Read n
+    found_read : (n : Number) (x : Reading) → number_in g m (drop at trace) ≡ x → placed (length trace) x ≡ Ok n → Read n
     found_read n (found v rest) e q =
         let t = in_tail g m (drop at trace) v rest e in
         let d = length-drop at trace in
@@ -79,24 +80,24 @@ module _ (g m : ℕ) where
         }
     found_read n bad e q = let z : ◌≡◌ {A = ℕ} 0 1 = cc in absurd (omega arith)
 
-    bad_read : (x : Reading) → number_in g m (drop at trace) ≡ x → placed (length trace) x ≡ Bad → number_in g m (drop at trace) ≡ bad
+    bad_read : (x : Reading) → number_in g m (drop at trace) ≡ x → placed (length trace) x ≡ Err Bad → number_in g m (drop at trace) ≡ bad
     bad_read (found v rest) e q = let z : ◌≡◌ {A = ℕ} 0 1 = cc in absurd (omega arith)
     bad_read bad e q = e
 
-    end_read : (x : Reading) → placed (length trace) x ≡ End → ⊥
+    end_read : (x : Reading) → placed (length trace) x ≡ Err End → ⊥
     end_read (found v rest) q = let z : ◌≡◌ {A = ℕ} 0 1 = cc in omega arith
     end_read bad q = let z : ◌≡◌ {A = ℕ} 0 1 = cc in omega arith
 
-    module _ (r : Found) (p : r ≡ number_at g m trace at) where
+    module _ (r : Result Number NoNumber) (p : r ≡ number_at g m trace at) where
       answers : r ≡ placed (length trace) (number_in g m (drop at trace))
       unfolding number_at
       answers = p ∙ when_false _ _ (lt-leb (length trace) at h)
 
-      pub value_read : (n : Number) → r ≡ Value n → Read n
+      pub value_read : (n : Number) → r ≡ Ok n → Read n
       value_read n e = found_read n (number_in g m (drop at trace)) refl (sym answers ∙ e)
 
-      pub bad_here : r ≡ Bad → numbers_in g m (drop at trace) ≡ faulty
+      pub bad_here : r ≡ Err Bad → numbers_in g m (drop at trace) ≡ faulty
       bad_here e = in_bad (drop at trace) (omega (arith, length-drop at trace)) (bad_read (number_in g m (drop at trace)) refl (sym answers ∙ e))
 
-      pub not_end : r ≡ End → ⊥
+      pub not_end : r ≡ Err End → ⊥
       not_end e = end_read (number_in g m (drop at trace)) (sym answers ∙ e)

@@ -11,6 +11,8 @@ use borrow.Author.Tests.{ltb-true, ltb-false, leb-false}
 use lib.Dec.{ltb, leb}
 use lib.ListN.{length, get_or, drop, set, length-append, length-set}
 use lib.Seq.{drop-cons, sets}
+use Rattle.std.specs.Prelude.{◌||◌}
+use Rattle.std.specs.List.{list_any}
 use Rattle.terms.specs.Choice.{either}
 use Rattle.terms.proofs.Tests.{either_false}
 use Rattle.numbers.specs.Numbers.{groups, bound, written}
@@ -34,8 +36,15 @@ small_at m [] i e h = absurd (not-suc-le-zero h)
 small_at m (n ∷ ns) zero e h = leb-false m n ((either_false (leb m n) (too_large m ns)).0 e).0
 small_at m (n ∷ ns) (suc i) e h = small_at m ns i ((either_false (leb m n) (too_large m ns)).0 e).1 (omega arith)
 
-pub large_at : (m : ℕ) (ns : List ℕ) (i : ℕ) → i < length ns → too_large m (drop i ns) ≡ either (leb m (get_or ns i 0)) (too_large m (drop (i + 1) ns))
-large_at m ns i h = ap (too_large m) (drop-cons ns i 0 h) ∙ ap (λ (k : ℕ). either (leb m (get_or ns i 0)) (too_large m (drop k ns))) (sym (add-one i))
+large_more : (t x y : Bool) → x ≡ y → (t || x) ≡ either t y
+unfolding either
+large_more true x y e = refl
+large_more false x y e = e
+
+pub any_large : (m : ℕ) (ns : List ℕ) → list_any (leb m) ns ≡ too_large m ns
+unfolding either
+any_large m [] = refl
+any_large m (n ∷ ns) = large_more (leb m n) (list_any (leb m) ns) (too_large m ns) (any_large m ns)
 
 -- The numbers from a place on, as they are written.
 pub spelt_at : (g : ℕ) (ns : List ℕ) (i : ℕ) → i < length ns → spelt g (drop i ns) ≡ written g (get_or ns i 0) ++ spelt g (drop (i + 1) ns)

@@ -12,8 +12,9 @@ use Rattle.terms.specs.Refusals.{refused, taken, ◌given-when◌, first}
 use Rattle.terms.proofs.Tests.{when_true, when_false}
 use Rattle.numbers.specs.Numbers.{groups, bound, number_at}
 use Rattle.numbers.specs.declared.Number.{Number}
-use Rattle.numbers.specs.declared.Found.{Found}
-use Rattle.numbers.specs.declared.Found.TheVariants.{End, Bad, Value}
+use Rattle.numbers.specs.declared.NoNumber.{NoNumber}
+use Rattle.numbers.specs.declared.NoNumber.TheVariants.{End, Bad}
+use Rattle.std.specs.Prelude.{Result, Ok, Err}
 use Rattle.trace.specs.Traces.{Numbers, good, faulty, after, numbers_in, is_faulty, list_of, is_odd, unmarked, numbers_of, judgement, pending, verdict}
 use Rattle.trace.proofs.Files.{in_none, in_more, value_read, bad_here, not_end}
 
@@ -63,8 +64,8 @@ module _ (trace : List ℕ) where
     pub judging_over : length trace ≤ at → b ≡ false → taken tt ≡ verdict false (numbers_of trace)
     judging_over h e = sym (when_false _ _ e) ∙ judging_done h
 
-    module _ (h : at < length trace) (r : Found) (p : r ≡ number_at groups bound trace at) where
-      pub judging_more : (n : Number) → r ≡ Value n → Judging n.next.0 (not b)
+    module _ (h : at < length trace) (r : Result Number NoNumber) (p : r ≡ number_at groups bound trace at) where
+      pub judging_more : (n : Number) → r ≡ Ok n → Judging n.next.0 (not b)
       judging_more n e =
           let read = value_read groups bound trace at h r p n e in
           record {
@@ -75,14 +76,12 @@ module _ (trace : List ℕ) where
                 ∙ k.verdict_so;
           }
 
-      pub judging_on : (n : Number) → r ≡ Value n → (at < n.next.0) × (n.next.0 ≤ length trace)
+      pub judging_on : (n : Number) → r ≡ Ok n → (at < n.next.0) × (n.next.0 ≤ length trace)
       judging_on n e = let read = value_read groups bound trace at h r p n e in (read.forward, read.inside)
 
-      pub judging_bad : r ≡ Bad → refused 18 ≡ verdict false (numbers_of trace)
-      judging_bad e = sym (ap (verdict b) (bad_here groups bound trace at h r p e)) ∙ k.verdict_so
-
-      pub judging_end : r ≡ End → refused 18 ≡ verdict false (numbers_of trace)
-      judging_end e = absurd (not_end groups bound trace at h r p e)
+      pub judging_none : (e : NoNumber) → r ≡ Err e → refused 18 ≡ verdict false (numbers_of trace)
+      judging_none Bad e = sym (ap (verdict b) (bad_here groups bound trace at h r p e)) ∙ k.verdict_so
+      judging_none End e = absurd (not_end groups bound trace at h r p e)
 
   pub marked : unmarked trace ≡ false → judgement trace ≡ verdict false (numbers_of trace)
   unfolding judgement

@@ -1,13 +1,11 @@
 -- 02, "Three": "The file is the number 1, then wait and low by turns to its end." Its judgement, and how it is written.
 -- Assumes nothing.
-use Rattle.std.specs.Prelude.{Bool, true, false, not, List, [], ◌∷◌, ◌++◌, ℕ, zero, suc, ◌%◌, eqb, ltb, leb, length, drop, get_or}
+use Rattle.std.specs.Prelude.{Result, Ok, Err, Bool, true, false, not, List, [], ◌∷◌, ◌++◌, ℕ, zero, suc, ◌%◌, eqb, ltb, leb, length, drop, get_or}
 use Rattle.terms.specs.Choice.{when, either}
-use Rattle.terms.specs.Refusals.{Row, Answer, refused, taken, ◌given-when◌, first}
+use Rattle.terms.specs.Refusals.{Row, Answer, refused, taken, ◌given-when◌, first, number}
+use Rattle.terms.specs.declared.Refusal.{Refusal}
+use Rattle.units.specs.declared.Bytes.{Bytes}
 use Rattle.numbers.specs.Numbers.{groups, bound, Reading, found, bad, number_in, written}
-use Rattle.trace.specs.declared.Judged.{Judged}
-use Rattle.trace.specs.declared.Judged.TheVariants as judged
-use Rattle.trace.specs.declared.Wrote.{Wrote}
-use Rattle.trace.specs.declared.Wrote.TheVariants as wrote
 
 -- Numbers one after the other; or one of them isn't good.
 pub data Numbers : Type 0 where
@@ -108,14 +106,10 @@ unless_refused ns buffer (taken n) = left (taken n) (file ns ++ drop n buffer)
 unfoldable pub writes : List ℕ → List ℕ → Left
 writes ns buffer = unless_refused ns buffer (first (write_rows ns buffer) (length (file ns)))
 
--- What the answers tell: the number of a refusal, otherwise that the file is good, or its length.
-abbrev pub told_judged : Judged → Answer (Unit {0})
-told_judged judged.Good = taken tt
-told_judged (judged.Refused n) = refused n
-
-abbrev pub told_wrote : Wrote → Answer ℕ
-told_wrote (wrote.Refused n) = refused n
-told_wrote (wrote.Taken length) = taken length.0
+-- What the answer of writing tells: the number of a refusal, otherwise the file's length.
+abbrev pub told_wrote : Result Bytes Refusal → Answer ℕ
+told_wrote (Err r) = refused (number r)
+told_wrote (Ok length) = taken length.0
 
 -- Number after number, as the code judges them: whether a wait is open after some, where one was or was not before them, and what that
 -- comes to. It is what rows 18 and 19 come to (`verdict_rows` in proofs/Judging.antt).

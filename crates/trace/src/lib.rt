@@ -2,81 +2,57 @@
 #![tactic(auto)]
 
 ghost use Rattle.std.specs.Prelude.{false, ◌≡◌, length, ◌≤◌};
-ghost use Rattle.trace.specs.Traces.{judgement, left, numbers_of, told_judged, told_wrote, verdict, writes};
+ghost use Rattle.terms.specs.Refusals.{told};
+ghost use Rattle.trace.specs.Traces.{judgement, left, numbers_of, told_wrote, verdict, writes};
 
 mod writing;
 
-use numbers::Found;
+use terms::Refusal;
 use units::Bytes;
 
-// What `judge` answers: that the file is good, or a refusal by its number.
-#[derive(Clone, Copy)]
-pub enum Judged {
-    Good,
-    Refused(u8),
-}
-
-// What `write` answers: a refusal by its number, or the file's length.
-#[derive(Clone, Copy)]
-pub enum Wrote {
-    Refused(u8),
-    Taken(Bytes),
-}
-
 // Judges a whole file: the first of refusals 17 to 19 that applies, or that it is good.
-pub fn judge(trace: &[u8]) -> Judged
-    ensures { told_judged result ≡ judgement trace.now }
+pub fn judge(trace: &[u8]) -> Result<(), Refusal>
+    ensures { told result ≡ judgement trace.now }
 {
-    if trace.len() == 0 {
-        return Judged::Refused(17);
-    }
-    if trace[0] != 1 {
-        return Judged::Refused(17);
+    if trace.is_empty() || trace[0] != 1 {
+        return Err(Refusal::Mark);
     }
     pairs(trace)
 }
 
 // Judges what follows a file's mark.
-fn pairs(trace: &[u8]) -> Judged
+fn pairs(trace: &[u8]) -> Result<(), Refusal>
     requires { 1 ≤ length trace.now }
-    ensures { told_judged result ≡ verdict false (numbers_of trace.now) }
+    ensures { told result ≡ verdict false (numbers_of trace.now) }
 {
     let mut at = 1;
     let mut waits = false;
     while at < trace.len() {
-        match reader::read(trace, Bytes(at)) {
-            Found::End => {
-                return Judged::Refused(18);
-            }
-            Found::Bad => {
-                return Judged::Refused(18);
-            }
-            Found::Value(number) => {
-                at = number.next.0;
-                waits = !waits;
-            }
-        }
+        let Ok(number) = reader::read(trace, Bytes(at)) else {
+            return Err(Refusal::Number);
+        };
+        at = number.next.0;
+        waits = !waits;
     }
     if waits {
-        return Judged::Refused(19);
+        return Err(Refusal::LoneWait);
     }
-    Judged::Good
+    Ok(())
 }
 
 // Writes the file of some waits and lows into a lent buffer, or refuses by 18, 19 or 27. Bytes past the file stay, and so does
 // the whole buffer where it refuses.
-pub fn write(numbers: &[u64], buffer: &mut [u8]) -> Wrote
+pub fn write(numbers: &[u64], buffer: &mut [u8]) -> Result<Bytes, Refusal>
     ensures { left (told_wrote result) buffer.new ≡ writes numbers.now buffer.old }
 {
     if writing::has_large(numbers) {
-        return Wrote::Refused(18);
+        return Err(Refusal::Number);
     }
     if numbers.len() % 2 != 0 {
-        return Wrote::Refused(19);
+        return Err(Refusal::LoneWait);
     }
-    let room = buffer.len();
-    if writing::fits(numbers, room) {
-        return Wrote::Taken(Bytes(writing::put_all(numbers, buffer)));
+    if !writing::fits(numbers, buffer.len()) {
+        return Err(Refusal::Room);
     }
-    Wrote::Refused(27)
+    Ok(Bytes(writing::put_all(numbers, buffer)))
 }

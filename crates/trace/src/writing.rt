@@ -10,14 +10,7 @@ use numbers::BOUND;
 pub(crate) fn has_large(numbers: &[u64]) -> bool
     ensures { result ≡ too_large bound numbers.now }
 {
-    let mut i = 0;
-    while i < numbers.len() {
-        if BOUND <= numbers[i] {
-            return true;
-        }
-        i += 1;
-    }
-    false
+    numbers.iter().any(|number| BOUND <= *number)
 }
 
 // Whether the numbers' file has room in so many bytes.
@@ -29,14 +22,12 @@ pub(crate) fn fits(numbers: &[u64], room: usize) -> bool
         return false;
     }
     let mut left = room - 1;
-    let mut i = 0;
-    while i < numbers.len() {
-        let size = size(numbers[i]);
+    for number in numbers {
+        let size = size(*number);
         if left < size {
             return false;
         }
         left -= size;
-        i += 1;
     }
     true
 }
@@ -62,10 +53,8 @@ pub(crate) fn put_all(numbers: &[u64], buffer: &mut [u8]) -> usize
 {
     buffer[0] = 1;
     let mut at = 1;
-    let mut i = 0;
-    while i < numbers.len() {
-        at = put(numbers[i], buffer, at);
-        i += 1;
+    for number in numbers {
+        at = put(*number, buffer, at);
     }
     at
 }

@@ -1,23 +1,20 @@
 -- `trace::pairs` reads number after number, and keeps whether a wait is open.
 -- Assumes nothing.
 use native.Mathlib.Omega.{arith}
-use Rattle.trace.proofs.Judging.{judging_first, judging_waits, judging_over, judging_more, judging_on, judging_bad, judging_end}
+use Rattle.trace.proofs.Judging.{judging_first, judging_waits, judging_over, judging_more, judging_on, judging_none}
 use Rattle.trace.proofs.pairs.Goals as goal
 
 pub loop-at-init : goal.loop-at-init
 loop-at-init c = search judging_first
 
-pub returns-in-End : goal.returns-in-End
-returns-in-End c = search judging_end
-
-pub returns-in-Bad : goal.returns-in-Bad
-returns-in-Bad c = search judging_bad
+pub returns-in_default : goal.returns-in_default
+returns-in_default c = search judging_none
 
 pub loop-at-smaller : goal.loop-at-smaller
 loop-at-smaller c =
     let trace = c.args.trace.now in
     let l = c.loop-at in
-    let on = judging_on trace l.at l.waits l.invariant c.loop-at-test.true c.read.result c.read.ensures c.in-Value.number c.in-Value.is in
+    let on = judging_on trace l.at l.waits l.invariant c.loop-at-test.true c.read.result c.read.ensures c.in-Ok.number c.in-Ok.is in
     let inside = on.1 in
     omega (arith, on.0, inside)
 

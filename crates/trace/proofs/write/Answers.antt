@@ -14,11 +14,11 @@ returns-then-has_large c = search (write_refused, walk) depth 12
 pub returns-then-numbers-ne0 : goal.returns-then-numbers-ne0
 returns-then-numbers-ne0 c = search (write_refused, walk) depth 12
 
-pub put_all-requires : goal.put_all-requires
-put_all-requires c = search (answered, leb-true)
+pub returns-then-not-fits : goal.returns-then-not-fits
+returns-then-not-fits c = search (write_refused, no_room, walk) depth 12
 
-pub returns-then-fits : goal.returns-then-fits
-returns-then-fits c =
+pub returns : goal.returns
+returns c =
     let a = c.args in
     let large = c.has_large.ensures in
     let room : length (file a.numbers.now) ≤ length a.buffer.now = search (leb-true, answered) in
@@ -26,6 +26,3 @@ returns-then-fits c =
     write_taken a.numbers.now a.buffer.now
     (answered _ _ _ large c.if-has_large.false, (agrees _ _ c.if-numbers-ne0.false, (le-ltb _ _ room, tt)))
     put.result _ put.ensures.0 put.ensures.1 room
-
-pub returns : goal.returns
-returns c = search (write_refused, no_room, walk) depth 12

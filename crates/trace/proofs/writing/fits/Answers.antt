@@ -16,8 +16,8 @@ returns-then-room-eq0 c =
     let none : a.room < length (file a.numbers.now) = omega (arith, c.if-room-eq0.true) in
     sym (lt-leb (length (file a.numbers.now)) a.room none)
 
-pub loop-i-init : goal.loop-i-init
-loop-i-init c = search fitting_first
+pub loop-number-init : goal.loop-number-init
+loop-number-init c = search fitting_first
 
 pub size-size-requires : goal.size-size-requires
 size-size-requires c = search small_at
@@ -25,8 +25,8 @@ size-size-requires c = search small_at
 pub returns-then-left-size : goal.returns-then-left-size
 returns-then-left-size c = sym (search (lt-leb, fitting_short))
 
-pub loop-i-preserved : goal.loop-i-preserved
-loop-i-preserved c = search fitting_more
+pub loop-number-preserved : goal.loop-number-preserved
+loop-number-preserved c = search fitting_more
 
 pub returns : goal.returns
 returns c = sym (search (le-leb, fitting_done))
