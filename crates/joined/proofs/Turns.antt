@@ -6,18 +6,14 @@ use mathlib.Core.Path.{◌≡◌, refl, sym, ap, ◌∙◌}
 use Prim.Native.Nat.{ℕ, zero, suc, ◌+◌, ◌-◌, ◌<◌, ◌≤◌}
 use native.Mathlib.Numerals.{add-one}
 use native.Mathlib.Omega.{arith}
-use Rattle.std.specs.Prelude.{Result, Ok, Err}
-use Rattle.terms.specs.Refusals.{told}
-use Rattle.terms.specs.declared.Refusal.{Refusal}
+use Rattle.terms.specs.Refusals.{Answer}
 use Rattle.terms.proofs.Tests.{when_true, when_false}
-use Rattle.units.proofs.Lines.{seen_told}
 use Rattle.units.specs.declared.Seen.{Seen}
 use Rattle.units.specs.declared.Seen.TheVariants.{Silence}
 use Rattle.host.specs.Step.{host_step}
 use Rattle.host.specs.declared.Sent.{Sent}
 use Rattle.phases.specs.Phases as chip
-use Rattle.chip.specs.Step.{Left, left, chip_step}
-use Rattle.chip.specs.declared.Played.{Played}
+use Rattle.chip.specs.Step.{Reply, Left, left, chip_step}
 use Rattle.bits.specs.Seeing.{sees}
 use Rattle.joined.specs.Joined.{State, Measuring, waited, lasted, listened, met, sent_to, pulsed, host_ended, played}
 use Rattle.joined.specs.Run.{state, after}
@@ -58,10 +54,10 @@ module _ (measured : Measuring) (image : List ℕ) where
     seen = sees j.host.session.place.phase j.host.session.place.index j.reply
 
     -- By what the host answers.
-    pub pulse_told : (r a : Result Sent Refusal) (s : Seen) (x : State) → r ≡ a → told r ≡ host_step j.host image s → s ≡ seen
-        → x ≡ sent_to measured here (told a) → x ≡ pulsed measured image here
+    pub pulse_told : (a : Answer Sent) (s : Seen) (x : State) → a ≡ host_step j.host image s → s ≡ seen
+        → x ≡ sent_to measured here a → x ≡ pulsed measured image here
     unfolding pulsed
-    pulse_told r a s x e q w h = h ∙ ap (sent_to measured here) (ap told (sym e) ∙ q ∙ ap (host_step j.host image) w)
+    pulse_told a s x q w h = h ∙ ap (sent_to measured here) (q ∙ ap (host_step j.host image) w)
 
 -- What the chip makes of it.
 module _ (measured : Measuring) (j : Joined) (ram eeprom : List ℕ) where
@@ -81,15 +77,9 @@ module _ (measured : Measuring) (j : Joined) (ram eeprom : List ℕ) where
     stepped_so l wait low ticks q w d b listens = rw (when_false _ _ listens, ← b, ← d, ← w) q
 
     -- By what its step answers.
-    module _ (x : Joined) (ram' eeprom' : List ℕ) (r : Result Played Refusal) (so : left (told r) ram' eeprom' ≡ listened measured (state j ram eeprom) sent) where
-      listened_told : (a : Result Played Refusal) → r ≡ a → state x ram' eeprom' ≡ met j.chip sent (left (told a) ram' eeprom')
-          → state x ram' eeprom' ≡ met j.chip sent (listened measured (state j ram eeprom) sent)
-      listened_told a e h = rw (← so, e) h
-
-      pub listened_refused : (n : Refusal) → r ≡ Err n → x ≡ after sent j.chip Silence
-          → state x ram' eeprom' ≡ met j.chip sent (listened measured (state j ram eeprom) sent)
-      listened_refused n e h = listened_told (Err n) e (rw h)
-
-      pub listened_played : (p : Played) → r ≡ Ok p → x ≡ after sent p.chip p.reply
-          → state x ram' eeprom' ≡ met j.chip sent (listened measured (state j ram eeprom) sent)
-      listened_played p e h = listened_told (Ok p) e (rw (h, seen_told p.reply))
+    pub listened_told : (x : Joined) (ram' eeprom' : List ℕ) (a : Answer Reply) (wait low ticks : ℕ) → left a ram' eeprom' ≡ chip_step j.chip ram eeprom wait low
+        → wait ≡ waited measured j.host.session.pulses (sent.fall.0 - j.rise.0)
+        → low ≡ lasted measured j.host.session.pulses ticks → ticks ≡ sent.rise.0 - sent.fall.0
+        → chip.ended j.chip.receiver.listener.phase ≡ false → state x ram' eeprom' ≡ met j.chip sent (left a ram' eeprom')
+        → state x ram' eeprom' ≡ met j.chip sent (listened measured (state j ram eeprom) sent)
+    listened_told x ram' eeprom' a wait low ticks q w d b goes h = rw (← stepped_so _ wait low ticks q w d b goes) h

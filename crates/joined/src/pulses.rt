@@ -80,6 +80,7 @@ fn listen(joined: Joined, sent: Sent, clock: Clock, ram: &mut [u8], eeprom: &mut
 }
 
 // The loops of the wait before a pulse, between two edges; before the first pulse sent it measures 0.
+#[tactic(auto, using(terms::proofs::Refusals::walk), unfolding(crate::specs::Joined::waited))]
 fn waited(pulses: u32, rise: Ticks, fall: Ticks, clock: Clock) -> Loops
     ensures { result.0 ≡ waited (rounded_down clock.p clock.l) pulses (fall.0 - rise.0) }
 {

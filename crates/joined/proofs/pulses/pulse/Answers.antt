@@ -3,8 +3,8 @@
 use Rattle.joined.proofs.Turns.{pulse_told}
 use Rattle.joined.proofs.pulses.pulse.Goals as goal
 
-pub returns-in-Refused : goal.returns-in-Refused
-returns-in-Refused c = search pulse_told
+pub returns-in-Ok : goal.returns-in-Ok
+returns-in-Ok c = search pulse_told
 
-pub returns-in-Taken : goal.returns-in-Taken
-returns-in-Taken c = search pulse_told
+pub returns-in-Err : goal.returns-in-Err
+returns-in-Err c = search pulse_told
