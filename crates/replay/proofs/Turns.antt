@@ -8,6 +8,7 @@ use native.Mathlib.Omega.{arith}
 use borrow.Author.Tests.{leb-true, leb-false}
 use lib.Dec.{leb}
 use lib.ListN.{length, drop, drop_of_length-le}
+use Rattle.std.specs.Prelude.{Option, None, Some, Result, Ok, Err}
 use Rattle.terms.proofs.Tests.{when_true, when_false}
 use Rattle.units.specs.Units.{loops_of}
 use Rattle.phases.specs.Phases.{ended}
@@ -18,16 +19,14 @@ use Rattle.chip.specs.declared.Stepped.{Stepped}
 use Rattle.chip.specs.declared.Stepped.TheVariants as stepped
 use Rattle.numbers.specs.Numbers.{groups, bound, number_at}
 use Rattle.numbers.specs.declared.Number.{Number}
-use Rattle.numbers.specs.declared.Found.{Found}
-use Rattle.numbers.specs.declared.Found.TheVariants as found
+use Rattle.numbers.specs.declared.NoNumber.{NoNumber}
+use Rattle.numbers.specs.declared.NoNumber.TheVariants.{End, Bad}
 use Rattle.numbers.proofs.Going.{at_end}
 use Rattle.trace.specs.Traces.{Numbers, good, faulty, after, is_faulty, list_of, numbers_in}
 use Rattle.trace.proofs.Files.{Read, value_read, bad_here, not_end, in_none, in_more}
 use Rattle.replay.specs.Pulses.{with_low, with_wait, pulse_at}
 use Rattle.replay.specs.Replay.{State, state, replied, kept, listened, played}
 use Rattle.replay.specs.declared.pulses.Pulse.{Pulse}
-use Rattle.replay.specs.declared.pulses.Recorded.{Recorded}
-use Rattle.replay.specs.declared.pulses.Recorded.TheVariants as recording
 
 -- A chip that has ended hears nothing more.
 pub played_ended : (ns : List ℕ) (s : State) → ended s.chip.receiver.listener.phase ≡ true → played ns s ≡ s
@@ -62,7 +61,7 @@ abbrev rest : List ℕ → ℕ → Numbers
 rest trace at = numbers_in groups bound (drop at trace)
 
 -- No number stands at the end.
-inside_by : (trace : List ℕ) (at : ℕ) (t : Bool) → leb (length trace) at ≡ t → (number_at groups bound trace at ≡ found.End → ⊥)
+inside_by : (trace : List ℕ) (at : ℕ) (t : Bool) → leb (length trace) at ≡ t → (number_at groups bound trace at ≡ Err End → ⊥)
     → at < length trace
 inside_by trace at true e n = absurd (n (sym (at_end groups bound trace at (leb-true (length trace) at e))))
 inside_by trace at false e n = leb-false (length trace) at e
@@ -78,7 +77,7 @@ module _ (trace : List ℕ) (at : ℕ) (h : at < length trace) (ok : is_faulty (
     pub good_too : is_faulty (rest trace p.next.0) ≡ false
     pub forward : at < p.next.0
 
-  module _ (w : Number) (e : number_at groups bound trace at ≡ found.Value w) where
+  module _ (w : Number) (e : number_at groups bound trace at ≡ Ok w) where
     read : Read groups bound trace at h w
     read = value_read groups bound trace at h (number_at groups bound trace at) refl w e
 
@@ -91,7 +90,7 @@ module _ (trace : List ℕ) (at : ℕ) (h : at < length trace) (ok : is_faulty (
     list_then : list_of (rest trace at) ≡ w.value ∷ list_of (rest trace w.next.0)
     list_then = ap list_of split ∙ then.list
 
-    module _ (l : Number) (e' : number_at groups bound trace w.next.0 ≡ found.Value l) where
+    module _ (l : Number) (e' : number_at groups bound trace w.next.0 ≡ Ok l) where
       before_end : w.next.0 < length trace
       before_end = inside_by trace w.next.0 (leb (length trace) w.next.0) refl (λ q. let z : ◌≡◌ {A = ℕ} 0 1 = cc in omega arith)
 
@@ -118,45 +117,43 @@ module _ (trace : List ℕ) (at : ℕ) (h : at < length trace) (ok : is_faulty (
             forward = omega (arith, f, f');
           }
 
-    with_low_lem : (p : Pulse) (y : Found) → number_at groups bound trace w.next.0 ≡ y → with_low w y ≡ recording.Pulse p → Turn p
-    with_low_lem p (found.Value l) q k =
+    with_low_lem : (p : Pulse) (y : Result Number NoNumber) → number_at groups bound trace w.next.0 ≡ y → with_low w y ≡ Some p → Turn p
+    with_low_lem p (Ok l) q k =
         let same : ◌≡◌ {A = Pulse} (record { wait = record { 0 = loops_of w.value }; low = record { 0 = loops_of l.value }; next = l.next }) p = cc in
         subst Turn same (turned l q)
-    with_low_lem p found.End q k = let z : ◌≡◌ {A = ℕ} 0 1 = cc in absurd (omega arith)
-    with_low_lem p found.Bad q k = let z : ◌≡◌ {A = ℕ} 0 1 = cc in absurd (omega arith)
+    with_low_lem p (Err n) q k = let z : ◌≡◌ {A = ℕ} 0 1 = cc in absurd (omega arith)
 
     -- A wait without its low.
-    alone_at : (t : Bool) → leb (length trace) w.next.0 ≡ t → (y : Found) → number_at groups bound trace w.next.0 ≡ y
-        → with_low w y ≡ recording.End → rest trace w.next.0 ≡ good []
+    alone_at : (t : Bool) → leb (length trace) w.next.0 ≡ t → (y : Result Number NoNumber) → number_at groups bound trace w.next.0 ≡ y
+        → with_low w y ≡ None → rest trace w.next.0 ≡ good []
     alone_at true b y q k = ap (numbers_in groups bound) (drop_of_length-le trace (leb-true (length trace) w.next.0 b)) ∙ in_none groups bound
-    alone_at false b (found.Value l) q k = let z : ◌≡◌ {A = ℕ} 0 1 = cc in absurd (omega arith)
-    alone_at false b found.End q k =
+    alone_at false b (Ok l) q k = let z : ◌≡◌ {A = ℕ} 0 1 = cc in absurd (omega arith)
+    alone_at false b (Err End) q k =
         absurd (not_end groups bound trace w.next.0 (leb-false (length trace) w.next.0 b) (number_at groups bound trace w.next.0) refl q)
-    alone_at false b found.Bad q k =
+    alone_at false b (Err Bad) q k =
         let bad = bad_here groups bound trace w.next.0 (leb-false (length trace) w.next.0 b) (number_at groups bound trace w.next.0) refl q in
         absurd (true≢false (sym (ap is_faulty bad) ∙ then.good_too))
 
-  with_wait_lem : (p : Pulse) (x : Found) → number_at groups bound trace at ≡ x → with_wait trace x ≡ recording.Pulse p → Turn p
-  with_wait_lem p (found.Value w) e k = with_low_lem w e p (number_at groups bound trace w.next.0) refl k
-  with_wait_lem p found.End e k = let z : ◌≡◌ {A = ℕ} 0 1 = cc in absurd (omega arith)
-  with_wait_lem p found.Bad e k = let z : ◌≡◌ {A = ℕ} 0 1 = cc in absurd (omega arith)
+  with_wait_lem : (p : Pulse) (x : Result Number NoNumber) → number_at groups bound trace at ≡ x → with_wait trace x ≡ Some p → Turn p
+  with_wait_lem p (Ok w) e k = with_low_lem w e p (number_at groups bound trace w.next.0) refl k
+  with_wait_lem p (Err n) e k = let z : ◌≡◌ {A = ℕ} 0 1 = cc in absurd (omega arith)
 
-  pub turn : (p : Pulse) → pulse_at trace at ≡ recording.Pulse p → Turn p
+  pub turn : (p : Pulse) → pulse_at trace at ≡ Some p → Turn p
   turn p k = with_wait_lem p (number_at groups bound trace at) refl k
 
-  over_by : (s : State) (x : Found) → number_at groups bound trace at ≡ x → with_wait trace x ≡ recording.End → played (list_of (rest trace at)) s ≡ s
-  over_by s (found.Value w) e k =
+  over_by : (s : State) (x : Result Number NoNumber) → number_at groups bound trace at ≡ x → with_wait trace x ≡ None → played (list_of (rest trace at)) s ≡ s
+  over_by s (Ok w) e k =
       ap (λ (ns : List ℕ). played ns s)
       (list_then w e
       ∙ ap (λ (x : Numbers). w.value ∷ list_of x)
       (alone_at w e (leb (length trace) w.next.0) refl (number_at groups bound trace w.next.0) refl k))
       ∙ played_one w.value s
-  over_by s found.End e k = absurd (not_end groups bound trace at h (number_at groups bound trace at) refl e)
-  over_by s found.Bad e k =
+  over_by s (Err End) e k = absurd (not_end groups bound trace at h (number_at groups bound trace at) refl e)
+  over_by s (Err Bad) e k =
       let bad = bad_here groups bound trace at h (number_at groups bound trace at) refl e in
       absurd (true≢false (sym (ap is_faulty bad) ∙ ok))
 
-  pub over : (s : State) → pulse_at trace at ≡ recording.End → played (list_of (rest trace at)) s ≡ s
+  pub over : (s : State) → pulse_at trace at ≡ None → played (list_of (rest trace at)) s ≡ s
   over s k = over_by s (number_at groups bound trace at) refl k
 
 module _ (trace : List ℕ) (end : State) where
@@ -174,17 +171,17 @@ module _ (trace : List ℕ) (end : State) where
         let none : rest trace at ≡ good [] = ap (numbers_in groups bound) (drop_of_length-le trace h) ∙ in_none groups bound in
         sym (ap (λ (x : Numbers). played (list_of x) s) none ∙ played_none s) ∙ k.same
 
-    module _ (h : at < length trace) (r : Recorded) (q : r ≡ pulse_at trace at) where
-      pub playing_over : r ≡ recording.End → s ≡ end
+    module _ (h : at < length trace) (r : Option Pulse) (q : r ≡ pulse_at trace at) where
+      pub playing_over : r ≡ None → s ≡ end
       playing_over e = sym (over trace at h k.sound s (sym q ∙ e)) ∙ k.same
 
-      playing_turn : (p : Pulse) → r ≡ recording.Pulse p → Turn trace at h k.sound p
+      playing_turn : (p : Pulse) → r ≡ Some p → Turn trace at h k.sound p
       playing_turn p e = turn trace at h k.sound p (sym q ∙ e)
 
-      pub playing_on : (p : Pulse) → r ≡ recording.Pulse p → at < p.next.0
+      pub playing_on : (p : Pulse) → r ≡ Some p → at < p.next.0
       playing_on p e = (playing_turn p e).forward
 
-      pub playing_more : (p : Pulse) → r ≡ recording.Pulse p → ended s.chip.receiver.listener.phase ≡ false → (s' : State)
+      pub playing_more : (p : Pulse) → r ≡ Some p → ended s.chip.receiver.listener.phase ≡ false → (s' : State)
           → s' ≡ listened s p.wait.0 p.low.0 → Playing s' p.next.0
       playing_more p e goes s' so =
           let t = playing_turn p e in

@@ -11,7 +11,6 @@ use chip::{Chip, Started};
 use eeprom::Fault;
 use margins::Nearest;
 use phases::ChipEnd;
-use trace::Judged;
 
 // What a replay came to: how the chip ended, or that it still listens, and the nearest 1 and 0 that it read.
 #[derive(Clone, Copy)]
@@ -35,11 +34,11 @@ pub fn replay(trace: &[u8], fault: Fault, ram: &mut [u8], eeprom: &mut [u8]) -> 
     match Chip::start(ram, eeprom, fault) {
         Started::Refused(n) => Replayed::Refused(n),
         Started::Taken(chip) => match trace::judge(trace) {
-            Judged::Good => {
+            Ok(()) => {
                 let end = playing::play(chip, trace, ram, eeprom);
                 Replayed::Finished(reported(end))
             }
-            Judged::Refused(n) => Replayed::Refused(n),
+            Err(refusal) => Replayed::Refused(refusal.number()),
         },
     }
 }

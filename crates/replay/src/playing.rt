@@ -3,7 +3,7 @@ ghost use Rattle.std.specs.Prelude.{false, ◌≡◌};
 ghost use Rattle.trace.specs.Traces.{is_faulty, list_of, numbers_of};
 ghost use Rattle.replay.specs.Replay.{listened, played, state};
 
-use crate::pulses::Recorded;
+use crate::pulses::pulse_at;
 use chip::{Chip, Played, Stepped};
 use phases::ChipEnd;
 use units::{Bytes, Loops};
@@ -20,17 +20,11 @@ pub(crate) fn play(start: Chip, trace: &[u8], ram: &mut [u8], eeprom: &mut [u8])
         if let ChipEnd::Ended(_) = end {
             return chip;
         }
-        match crate::pulses::pulse_at(trace, Bytes(at)) {
-            Recorded::End => {
-                return chip;
-            }
-            Recorded::Pulse(pulse) => {
-                let wait = pulse.wait;
-                let low = pulse.low;
-                chip = listen(chip, ram, eeprom, wait, low);
-                at = pulse.next.0;
-            }
-        }
+        let Some(pulse) = pulse_at(trace, Bytes(at)) else {
+            return chip;
+        };
+        chip = listen(chip, ram, eeprom, pulse.wait, pulse.low);
+        at = pulse.next.0;
     }
     chip
 }
@@ -48,6 +42,5 @@ fn listen(chip: Chip, ram: &mut [u8], eeprom: &mut [u8], wait: Loops, low: Loops
 fn after(played: Played) -> Chip
     ensures { result ≡ played.chip }
 {
-    let chip = played.chip;
-    chip
+    played.chip
 }

@@ -9,8 +9,8 @@ play-end-requires c = search file_sound
 pub returns-in-Refused : goal.returns-in-Refused
 returns-in-Refused c = search start_refused
 
-pub returns-in-Good : goal.returns-in-Good
-returns-in-Good c = search replay_finished
+pub returns-in-Ok : goal.returns-in-Ok
+returns-in-Ok c = search replay_finished
 
-pub returns-in-Refused-judge : goal.returns-in-Refused-judge
-returns-in-Refused-judge c = search file_refused
+pub returns-in-Err : goal.returns-in-Err
+returns-in-Err c = search file_refused

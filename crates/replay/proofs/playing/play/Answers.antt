@@ -19,19 +19,13 @@ shape_of-eeprom-in-Ended c = c.loop-at.invariant.2
 pub returns-in-Ended : goal.returns-in-Ended
 returns-in-Ended c = search (playing_ended, has_ended)
 
-pub shape_of-ram-in-End : goal.shape_of-ram-in-End
-shape_of-ram-in-End c = c.loop-at.invariant.1
-
-pub shape_of-eeprom-in-End : goal.shape_of-eeprom-in-End
-shape_of-eeprom-in-End c = c.loop-at.invariant.2
-
-pub returns-in-End : goal.returns-in-End
-returns-in-End c = search playing_over
+pub returns-in_default-pulse_at : goal.returns-in_default-pulse_at
+returns-in_default-pulse_at c = search playing_over
 
 pub loop-at-smaller : goal.loop-at-smaller
 loop-at-smaller c =
     let test = c.loop-at-test.true in
-    let on : c.loop-at.at < c.in-Pulse.pulse.next.0 = search playing_on in
+    let on : c.loop-at.at < c.in-Some.pulse.next.0 = search playing_on in
     omega (arith, on, test)
 
 pub loop-at-preserved : goal.loop-at-preserved
@@ -42,7 +36,7 @@ loop-at-preserved c =
     let test = c.loop-at-test.true in
     let l = c.loop-at in
     let goes = listens end.result l.chip.receiver.listener.phase end.ensures c.in_default.is in (
-      playing_more _ _ _ _ l.invariant.0 test r.result r.ensures _ c.in-Pulse.is goes _ listen.ensures,
+      playing_more _ _ _ _ l.invariant.0 test r.result r.ensures _ c.in-Some.is goes _ listen.ensures,
       listen.auto.ram ∙ l.invariant.1,
       listen.auto.eeprom ∙ l.invariant.2,
     )
