@@ -1,14 +1,14 @@
 // Why there is no report.
 use crate::settings_file::Fault;
 use std::alloc::{AllocError, AllocFailed};
-use std::{fmt, io};
+use std::fmt;
 use terms::Refusal;
 
-#[derive(Drop)]
+#[derive(Clone, Copy)]
 pub enum Error<'a> {
     Settings(Fault<'a>),
     Image(Refusal),
-    Io(io::Error),
+    OutOfMemory,
 }
 
 impl fmt::Display for Error<'_> {
@@ -16,7 +16,7 @@ impl fmt::Display for Error<'_> {
         match self {
             Error::Settings(fault) => write!(f, "{fault}"),
             Error::Image(refusal) => write!(f, "{refusal}"),
-            Error::Io(error) => write!(f, "{error}"),
+            Error::OutOfMemory => write!(f, "out of memory"),
         }
     }
 }
@@ -33,20 +33,14 @@ impl From<Refusal> for Error<'_> {
     }
 }
 
-impl From<io::Error> for Error<'_> {
-    fn from(error: io::Error) -> Self {
-        Error::Io(error)
-    }
-}
-
 impl From<AllocError> for Error<'_> {
-    fn from(error: AllocError) -> Self {
-        Error::Io(io::Error::from(error))
+    fn from(_error: AllocError) -> Self {
+        Error::OutOfMemory
     }
 }
 
 impl<T: Drop> From<AllocFailed<T>> for Error<'_> {
-    fn from(error: AllocFailed<T>) -> Self {
-        Error::from(AllocError::from(error))
+    fn from(_error: AllocFailed<T>) -> Self {
+        Error::OutOfMemory
     }
 }

@@ -5,8 +5,8 @@ use std::fmt;
 #[derive(Drop)]
 pub struct Job {
     pub title: String,
+    pub image: Vec<u8>,
     pub command: Command,
-    pub bytes: usize,
     pub trackers: u16,
 }
 
@@ -18,15 +18,6 @@ pub enum Command {
 }
 
 impl Command {
-    pub fn from_number(number: u32) -> Option<Command> {
-        match number {
-            1 => Some(Command::Run),
-            2 => Some(Command::Program),
-            3 => Some(Command::ProgramAndRun),
-            _ => None,
-        }
-    }
-
     pub fn number(self) -> u32 {
         self as u32
     }

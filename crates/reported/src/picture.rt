@@ -73,7 +73,7 @@ fn head<W: Write>(out: &mut W, batch: &Batch<'_>, height: Y) -> io::Result<()> {
     writeln!(
         out,
         r##"<text x="16" y="54" fill="#555">{title}, {} bytes, command {} ({}), {} pulses a tracker</text>"##,
-        Grouped(job.bytes as u64),
+        Grouped(job.image.len() as u64),
         job.command.number(),
         job.command,
         Grouped(batch.pulses())

@@ -18,7 +18,7 @@ pub fn report<W: Write>(out: &mut W, batch: &Batch<'_>) -> io::Result<()> {
     }
     pairs(out, &batch.pairs)?;
     phases(out, &batch.rows)?;
-    notes(out)
+    writeln!(out, "{NOTES}")
 }
 
 fn head<W: Write>(out: &mut W, batch: &Batch<'_>) -> io::Result<()> {
@@ -27,7 +27,7 @@ fn head<W: Write>(out: &mut W, batch: &Batch<'_>) -> io::Result<()> {
         out,
         "BATCH REPORT  {}: {} bytes, command {} ({}), {} tracker{}",
         job.title,
-        Grouped(job.bytes as u64),
+        Grouped(job.image.len() as u64),
         job.command.number(),
         job.command,
         Grouped(u64::from(job.trackers)),
@@ -40,22 +40,19 @@ fn head<W: Write>(out: &mut W, batch: &Batch<'_>) -> io::Result<()> {
         Grouped(batch.ones),
         Grouped(batch.zeros)
     )?;
-    writeln!(
-        out,
-        "Line time only: no reset, no handling, and a chip that is never busy. Sums are exact; a clock time is cut, not rounded, once, to 1 ms,"
-    )?;
-    writeln!(out, "after the last sum, and a difference to 0.1 s.")?;
-    writeln!(out)
+    writeln!(out, "{LINE_TIME}")
 }
+
+const LINE_TIME: &str =
+    "Line time only: no reset, no handling, and a chip that is never busy. Sums are exact; a clock time is cut, not rounded, once, to 1 ms,
+after the last sum, and a difference to 0.1 s.
+";
 
 // ---- The settings
 
 fn settings<W: Write>(out: &mut W, batch: &Batch<'_>) -> io::Result<()> {
     if !batch.rows.is_empty() {
-        writeln!(
-            out,
-            "rank setting         t us     h us      p ns  one tracker s   all trackers    behind 1st |  old bench said  rank   left out | chip loops ns"
-        )?;
+        writeln!(out, "{COLUMNS}")?;
     }
     if !batch.has(Group::Safe) {
         writeln!(out, "     no setting is safe for every chip")?;
@@ -77,6 +74,9 @@ fn settings<W: Write>(out: &mut W, batch: &Batch<'_>) -> io::Result<()> {
     }
     writeln!(out)
 }
+
+const COLUMNS: &str =
+    "rank setting         t us     h us      p ns  one tracker s   all trackers    behind 1st |  old bench said  rank   left out | chip loops ns";
 
 fn heading(group: Group) -> &'static str {
     match group {
@@ -171,14 +171,7 @@ fn pairs<W: Write>(out: &mut W, pairs: &Pairs<'_>) -> io::Result<()> {
 // ---- The phases
 
 fn phases<W: Write>(out: &mut W, rows: &[Row<'_>]) -> io::Result<()> {
-    writeln!(
-        out,
-        "Milliseconds of each phase, one tracker. These are exact times; `plan --phases` has differences of ticks."
-    )?;
-    writeln!(
-        out,
-        "rank setting      calibration   handshake  connection    version    command       size          image        ram  programming  verification         in all"
-    )?;
+    writeln!(out, "{PHASE_COLUMNS}")?;
     for row in rows {
         let setting = &row.setting;
         write!(out, "{:3}  {:<13}", row.rank, setting.name)?;
@@ -191,25 +184,13 @@ fn phases<W: Write>(out: &mut W, rows: &[Row<'_>]) -> io::Result<()> {
     writeln!(out)
 }
 
-fn notes<W: Write>(out: &mut W) -> io::Result<()> {
-    writeln!(
-        out,
-        "old bench: it cut each low and each spacer to whole us before it added; `left out` is what that lost, over all trackers"
-    )?;
-    writeln!(
-        out,
-        "chip loops: the load is proved to succeed for every chip whose loop is 400 ns to this (cut to whole ns), since t is at least 5 loops and"
-    )?;
-    writeln!(
-        out,
-        "  4 ticks; real chips have loops of 400 to 1,000 ns; margin: t is shorter than that asks for with the longest of them (docs/LIMITS.md)"
-    )?;
-    writeln!(
-        out,
-        "h < t: planned, but a real chip can lose bits where the spacer is shorter than t (docs/LIMITS.md)"
-    )?;
-    writeln!(
-        out,
-        "phases: the spacer after a phase's last pulse is its own; after the session's last pulse there is none"
-    )
-}
+const PHASE_COLUMNS: &str =
+    "Milliseconds of each phase, one tracker. These are exact times; `plan --phases` has differences of ticks.
+rank setting      calibration   handshake  connection    version    command       size          image        ram  programming  verification         in all";
+
+const NOTES: &str =
+    "old bench: it cut each low and each spacer to whole us before it added; `left out` is what that lost, over all trackers
+chip loops: the load is proved to succeed for every chip whose loop is 400 ns to this (cut to whole ns), since t is at least 5 loops and
+  4 ticks; real chips have loops of 400 to 1,000 ns; margin: t is shorter than that asks for with the longest of them (docs/LIMITS.md)
+h < t: planned, but a real chip can lose bits where the spacer is shorter than t (docs/LIMITS.md)
+phases: the spacer after a phase's last pulse is its own; after the session's last pulse there is none";
