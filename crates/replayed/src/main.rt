@@ -25,10 +25,12 @@ fn main(rt: HostRuntime) -> io::Result<()> {
         return play(&rt, trace.as_slice(), &mut zeros);
     }
     let Some(size @ 0..=MOST) = figures::read(&text[..n]) else {
-        return eprintln!(rt; "replayed: a trace is wanted on standard input, and before it an EEPROM of as many bytes as the argument says, at most 32769");
+        return eprintln!(rt;
+            "replayed: a trace is wanted on standard input, and before it an EEPROM of as many bytes as the argument says, at most 32769"
+        );
     };
     let mut input = Vec::new(rt.alloc());
-    read(&rt, size as usize, &mut input);
+    read(&rt, size, &mut input);
     let at = input.len().min(size as usize);
     let (eeprom, trace) = input.split_at_mut(at);
     play(&rt, trace, eeprom)
@@ -36,8 +38,8 @@ fn main(rt: HostRuntime) -> io::Result<()> {
 
 // Standard input, up to so many bytes and a trace of one byte more than the longest has, so that a longer one is seen to be too long. An
 // input that cannot be read ends there.
-fn read(rt: &HostRuntime, before: usize, input: &mut Vec<u8>) {
-    let most = before as u64 + LONGEST as u64 + 1;
+fn read(rt: &HostRuntime, before: u32, input: &mut Vec<u8>) {
+    let most = u64::from(before) + LONGEST as u64 + 1;
     let _ = rt.reader().take(most).read_to_end(input);
 }
 
