@@ -1,7 +1,7 @@
 -- 01, "Refusal numbers": demand 1 as a list of facts. Each is of the definition that a call's contract cites, for every input and every
 -- record. That each call ends is the meaning of its contract; that a caller need check nothing, its having no `requires`.
 -- Assumes nothing.
-use Rattle.std.specs.Prelude.{true, List, ◌++◌, ◌↔◌, ◌≡◌, ℕ, length}
+use Rattle.std.specs.Prelude.{true, List, Option, ◌++◌, ◌↔◌, ◌≡◌, ℕ, length}
 use Rattle.terms.specs.Refusals.{Row, refused, Given}
 use Rattle.units.specs.declared.Seen.{Seen}
 use Rattle.settings.specs.Settings.{settings_rows, checked}
@@ -17,7 +17,6 @@ use Rattle.host.specs.declared.Host.{Host}
 use Rattle.host.specs.Reached as host_reached
 use Rattle.serial.specs.Step.{serial_start, serial_rows, serial_step}
 use Rattle.serial.specs.Reached as serial_reached
-use Rattle.serial.specs.declared.Wire.{Wire}
 use Rattle.packing.specs.declared.Packing.{Packing}
 use Rattle.serial.specs.declared.Serial.{Serial}
 use Rattle.eeprom.specs.declared.Fault.{Fault}
@@ -54,7 +53,7 @@ pub record Demand1 : Type 0 where
   pub session_step_lem : (s : Session) (image : List ℕ) (seen : Seen) (n : ℕ)
       → (session_step s image seen ≡ refused n) ↔ Given n (session.step_rows s image)
   pub host_step_lem : (x : Host) (image : List ℕ) (seen : Seen) (n : ℕ) → (host_step x image seen ≡ refused n) ↔ Given n (host_rows x image)
-  pub serial_step_lem : (s : Serial) (image : List ℕ) (back : Wire) (n : ℕ)
+  pub serial_step_lem : (s : Serial) (image : List ℕ) (back : Option ℕ) (n : ℕ)
       → (serial_step s image back ≡ refused n) ↔ Given n (serial_rows s image back)
   pub chip_step_lem : (c : Chip) (ram eeprom : List ℕ) (wait low n : ℕ)
       → ((chip_step c ram eeprom wait low).answer ≡ refused n) ↔ Given n (step_rows c ram eeprom)
@@ -78,7 +77,7 @@ pub record Demand1 : Type 0 where
   -- 13 is never given to a record got from a start by steps that weren't refused,
   pub session_never_13 : (s : Session) → session_reached.Reached s → (image : List ℕ) (seen : Seen) → session_step s image seen ≡ refused 13 → ⊥
   pub host_never_13 : (x : Host) → host_reached.Reached x → (image : List ℕ) (seen : Seen) → host_step x image seen ≡ refused 13 → ⊥
-  pub serial_never_13 : (s : Serial) → serial_reached.Reached s → (image : List ℕ) (back : Wire) → serial_step s image back ≡ refused 13 → ⊥
+  pub serial_never_13 : (s : Serial) → serial_reached.Reached s → (image : List ℕ) (back : Option ℕ) → serial_step s image back ≡ refused 13 → ⊥
   pub chip_never_13 : (c : Chip) → chip_reached.Reached c → (ram eeprom : List ℕ) (wait low : ℕ)
       → (chip_step c ram eeprom wait low).answer ≡ refused 13 → ⊥
   -- and 14 always to such a record that has ended.
@@ -86,7 +85,7 @@ pub record Demand1 : Type 0 where
       → session_step s image seen ≡ refused 14
   pub host_ended_lem : (x : Host) → host_reached.Reached x → place.ended x.session.place.phase ≡ true → (image : List ℕ) (seen : Seen)
       → host_step x image seen ≡ refused 14
-  pub serial_ended : (s : Serial) → serial_reached.Reached s → place.ended s.place.phase ≡ true → (image : List ℕ) (back : Wire)
+  pub serial_ended : (s : Serial) → serial_reached.Reached s → place.ended s.place.phase ≡ true → (image : List ℕ) (back : Option ℕ)
       → serial_step s image back ≡ refused 14
   pub chip_ended : (c : Chip) → chip_reached.Reached c → phases.ended c.receiver.listener.phase ≡ true → (ram eeprom : List ℕ) (wait low : ℕ)
       → length ram ≡ 32768 → length eeprom ≡ 32768 → (chip_step c ram eeprom wait low).answer ≡ refused 14
