@@ -1,6 +1,6 @@
 -- One pulse as the code plays it is one pulse of the definition: by what the host answers, whether the chip has ended, and what it answers.
 -- Assumes nothing.
-use mathlib.Core.Bool.{true, false}
+use mathlib.Core.Bool.{true, false, true≢false, false≢true}
 use mathlib.Core.List.{List}
 use mathlib.Core.Path.{◌≡◌, refl, sym, ap, ◌∙◌}
 use Prim.Native.Nat.{ℕ, zero, suc, ◌+◌, ◌-◌, ◌<◌, ◌≤◌}
@@ -12,6 +12,16 @@ use Rattle.units.specs.declared.Seen.{Seen}
 use Rattle.units.specs.declared.Seen.TheVariants.{Silence}
 use Rattle.host.specs.Step.{host_step}
 use Rattle.host.specs.declared.Sent.{Sent}
+use Rattle.std.specs.Prelude.{Option, None, Some, is_some}
+use Rattle.place.specs.Endings.{end_at, told_end}
+use Rattle.place.specs.Phases.{ended}
+use Rattle.place.specs.declared.Ending as host_ending
+use Rattle.place.specs.declared.Phase as host_phase
+use Rattle.phases.specs.declared.Ending as chip_ending
+use Rattle.phases.specs.declared.Phase as chip_phase
+use Rattle.phases.specs.Endings as chips
+use Rattle.phases.proofs.Endings as asked_chip
+use Rattle.place.proofs.Endings.{goes_on, has_ended}
 use Rattle.phases.specs.Phases as chip
 use Rattle.chip.specs.Step.{Reply, Left, left, chip_step}
 use Rattle.bits.specs.Seeing.{sees}
@@ -83,3 +93,22 @@ module _ (measured : Measuring) (j : Joined) (ram eeprom : List ℕ) where
         → chip.ended j.chip.receiver.listener.phase ≡ false → state x ram' eeprom' ≡ met j.chip sent (left a ram' eeprom')
         → state x ram' eeprom' ≡ met j.chip sent (listened measured (state j ram eeprom) sent)
     listened_told x ram' eeprom' a wait low ticks q w d b goes h = rw (← stepped_so _ wait low ticks q w d b goes) h
+
+-- Whether a side has ended, by what it was asked.
+module _ (p : host_phase.Phase) where
+  pub host_ends : (r : Option host_ending.Ending) → told_end r ≡ end_at p → is_some r ≡ true → ended p ≡ true
+  host_ends (Some e) asked q = has_ended (Some e) p asked e refl
+  host_ends None asked q = absurd (false≢true q)
+
+  pub host_goes : (r : Option host_ending.Ending) → told_end r ≡ end_at p → is_some r ≡ false → ended p ≡ false
+  host_goes None asked q = goes_on None p asked refl
+  host_goes (Some e) asked q = absurd (true≢false q)
+
+module _ (p : chip_phase.Phase) where
+  pub chip_ends : (r : Option chip_ending.Ending) → chips.told_end r ≡ chips.end_at p → is_some r ≡ true → chip.ended p ≡ true
+  chip_ends (Some e) asked q = asked_chip.has_ended (Some e) p asked e refl
+  chip_ends None asked q = absurd (false≢true q)
+
+  pub chip_goes : (r : Option chip_ending.Ending) → chips.told_end r ≡ chips.end_at p → is_some r ≡ false → chip.ended p ≡ false
+  chip_goes None asked q = asked_chip.listens None p asked refl
+  chip_goes (Some e) asked q = absurd (true≢false q)

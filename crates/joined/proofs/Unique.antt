@@ -1,7 +1,7 @@
 -- The public call has one answer and leaves each lent memory in one way, since what it tells can be turned back. `Post` is the promise
 -- that is generated from its contract.
 -- Assumes nothing.
-use mathlib.Core.Path.{◌≡◌, refl, sym, ap, ◌∙◌}
+use mathlib.Core.Path.{◌≡◌, sym, ap, ◌∙◌}
 use Rattle.terms.proofs.Answers.{OneOutcome, Leaves, named, named_number, one_left}
 use Rattle.std.specs.Prelude.{Result, Ok, Err}
 use Rattle.terms.specs.Refusals.{Answer, refused, taken}

@@ -38,7 +38,7 @@ pub(crate) fn play(
     ensures { state result ram.new eeprom.new ≡ played (rounded_down clock.p clock.l) image.now budget (state start ram.old eeprom.old) }
 {
     let mut joined = start;
-    for left in 0..BUDGET {
+    for n in 0..BUDGET {
         if joined.host.end().is_some() {
             return joined;
         }
@@ -47,13 +47,7 @@ pub(crate) fn play(
     joined
 }
 
-fn pulse(
-    joined: Joined,
-    image: &[u8],
-    clock: Clock,
-    ram: &mut [u8],
-    eeprom: &mut [u8],
-) -> Joined
+fn pulse(joined: Joined, image: &[u8], clock: Clock, ram: &mut [u8], eeprom: &mut [u8]) -> Joined
     ensures { state result ram.new eeprom.new ≡ pulsed (rounded_down clock.p clock.l) image.now (state joined ram.old eeprom.old) }
 {
     let seen = bits::sees(joined.host.session.place, joined.reply);

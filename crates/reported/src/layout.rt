@@ -1,6 +1,62 @@
-// Where the rows of the picture stand, in pixels from its top.
-use crate::table::{minus, of, plus};
-use crate::{table, words};
+// Where things stand in the picture.
+use crate::batch::{Batch, Refused, Row};
+use crate::forms::Decimal;
+use crate::refusals;
+use std::alloc::{AllocError, Global};
+use std::fmt;
+use std::ops::{Add, Sub};
+
+// Pixels from the top.
+#[derive(Clone, Copy)]
+pub struct Y(u64);
+
+// Tenths of a pixel, from the left.
+#[derive(Clone, Copy, PartialEq, Eq, PartialOrd, Ord)]
+pub struct X(pub u64);
+
+impl Add<u64> for Y {
+    type Output = Y;
+
+    fn add(self, pixels: u64) -> Y {
+        Y(self.0.saturating_add(pixels))
+    }
+}
+
+impl Sub<u64> for Y {
+    type Output = Y;
+
+    fn sub(self, pixels: u64) -> Y {
+        Y(self.0.saturating_sub(pixels))
+    }
+}
+
+impl Add<u64> for X {
+    type Output = X;
+
+    fn add(self, tenths: u64) -> X {
+        X(self.0.saturating_add(tenths))
+    }
+}
+
+impl Sub for X {
+    type Output = X;
+
+    fn sub(self, other: X) -> X {
+        X(self.0.saturating_sub(other.0))
+    }
+}
+
+impl fmt::Display for Y {
+    fn fmt<W: fmt::Write>(&self, f: &mut fmt::Formatter<W>) -> fmt::Result {
+        write!(f, "{}", self.0)
+    }
+}
+
+impl fmt::Display for X {
+    fn fmt<W: fmt::Write>(&self, f: &mut fmt::Formatter<W>) -> fmt::Result {
+        write!(f, "{}", Decimal::tenths(self.0))
+    }
+}
 
 // A group's heading, a setting's row, and what is below a group.
 const HEADING: u64 = 30;
@@ -9,58 +65,89 @@ const ROW: u64 = 62;
 
 const GAP: u64 = 10;
 
-// Below the heads of the columns, or without these.
+// Where the first group begins: below the heads of the columns, or without these.
 const TOP: u64 = 184;
 
 const BARE_TOP: u64 = 90;
 
-// A setting's row, or what is below all, where there is no such setting.
-pub(crate) fn row(rows: &[u64], i: usize) -> u64 {
-    let mut y = top(table::is_refused(rows, 0));
-    for j in 0..i {
-        y = plus(y, plus(above(rows, j), height(of(rows, table::REFUSAL, j))));
-    }
-    if i == table::settings(rows) {
-        return plus(y, GAP);
-    }
-    plus(y, above(rows, i))
+#[derive(Drop)]
+pub struct Layout<'a> {
+    pub rows: Vec<PlacedRow<'a>>,
+    pub refused: Vec<PlacedRefused<'a>>,
+    // What is below all.
+    pub end: Y,
 }
 
-fn top(is_bare: bool) -> u64 {
-    if is_bare {
-        return BARE_TOP;
-    }
-    TOP
+#[derive(Clone, Copy)]
+pub struct PlacedRow<'a> {
+    pub row: &'a Row<'a>,
+    pub y: Y,
+    // Where its place in the old bench's order is.
+    pub old_y: Y,
 }
 
-// What is between a row and the one before: the heading of its group, where it is the first one there.
-fn above(rows: &[u64], i: usize) -> u64 {
-    if i == 0 {
-        return HEADING;
-    }
-    if i == table::first(rows, i) {
-        return GAP + HEADING;
-    }
-    0
+#[derive(Clone, Copy)]
+pub struct PlacedRefused<'a> {
+    pub setting: &'a Refused<'a>,
+    pub y: Y,
 }
 
-fn height(refusal: u64) -> u64 {
-    if refusal == 0 {
-        return ROW;
+impl<'a> Layout<'a> {
+    pub fn of(alloc: Global, batch: &'a Batch<'a>) -> Result<Layout<'a>, AllocError> {
+        let mut rows = Vec::new(alloc);
+        let mut y = Y(if batch.rows.is_empty() { BARE_TOP } else { TOP });
+        let mut top = y;
+        for row in batch.rows.iter() {
+            if row.is_first {
+                y = y + heading(rows.is_empty());
+                top = y;
+            }
+            rows.push(PlacedRow {
+                row,
+                y,
+                old_y: old_y(top, row, &batch.rows),
+            })?;
+            y = y + ROW;
+        }
+        let mut refused = Vec::new(alloc);
+        for setting in batch.refused.iter() {
+            if refused.is_empty() {
+                y = y + heading(rows.is_empty());
+            }
+            refused.push(PlacedRefused { setting, y })?;
+            y = y + height(setting);
+        }
+        Ok(Layout {
+            rows,
+            refused,
+            end: y + GAP,
+        })
     }
-    if words::has_more(refusal) {
-        return 42;
+}
+
+// What stands above the first row of a group, which may be the first of all.
+fn heading(is_first_group: bool) -> u64 {
+    if is_first_group {
+        HEADING
+    } else {
+        GAP + HEADING
     }
-    24
+}
+
+fn height(setting: &Refused<'_>) -> u64 {
+    match refusals::more_words(setting.refusal) {
+        Some(_) => 42,
+        None => 24,
+    }
 }
 
 // Where the old bench's place of a setting is, which those with the same time by it share: the middle of their rows.
-pub(crate) fn old_row(rows: &[u64], i: usize) -> u64 {
-    let rank = minus(of(rows, table::OLD_RANK, i), 1);
-    let others = minus(
-        table::such(rows, table::OLD_EQUAL, i, table::settings(rows)),
-        1,
-    );
-    let y = row(rows, table::first(rows, i));
-    plus(y, rank % 64 * ROW + others % 64 * (ROW / 2))
+fn old_y(top: Y, row: &Row<'_>, rows: &[Row<'_>]) -> Y {
+    let sharing = rows
+        .iter()
+        .filter(|other| other.setting.is_as_fast_by_old_bench(&row.setting))
+        .count();
+    let before = row.old_rank.saturating_sub(1) as u64;
+    let others = sharing.saturating_sub(1) as u64;
+    top + before.saturating_mul(ROW) + others.saturating_mul(ROW / 2)
 }

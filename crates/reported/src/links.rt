@@ -1,45 +1,73 @@
 // The order that the old bench gave the settings of a group, at the left, and the exact one, at the right.
-use crate::phrases::fill;
-use crate::table::plus;
-use crate::words::when;
-use crate::{layout, phrases, table};
+use crate::layout::{Layout, PlacedRow};
+use crate::pairs::{Kind, Pairs};
+use std::io;
+use std::io::Write;
 
-pub(crate) fn draw(rows: &[u64]) {
-    for i in 0..table::settings(rows) {
-        if table::is_refused(rows, i) {
-            break;
+pub fn draw<W: Write>(out: &mut W, layout: &Layout<'_>, pairs: &Pairs<'_>) -> io::Result<()> {
+    for (i, placed) in layout.rows.iter().enumerate() {
+        let row = placed.row;
+        let setting = &row.setting;
+        link(out, placed, Style::of(setting.name, pairs))?;
+        let mut before = layout.rows.iter().take(i);
+        if !before.any(|other| other.row.setting.is_as_fast_by_old_bench(setting)) {
+            writeln!(
+                out,
+                r#"<text x="704" y="{}" font-size="12" text-anchor="end">{}</text>"#,
+                placed.old_y + 24,
+                row.old_rank
+            )?;
         }
-        link(
-            rows,
-            i,
-            plus(layout::old_row(rows, i), 20),
-            plus(layout::row(rows, i), 20),
-        );
+    }
+    Ok(())
+}
+
+// How a link is drawn, and the dots at its ends.
+#[derive(Clone, Copy)]
+struct Style {
+    stroke: &'static str,
+    dot: &'static str,
+}
+
+impl Style {
+    // Red where a pair of the setting is the wrong way round, dashed where it was not told apart from another, or only by the old bench.
+    fn of(name: &str, pairs: &Pairs<'_>) -> Style {
+        let mut wrong = pairs.wrong.iter().filter(|pair| pair.names(name));
+        let is_crossed = wrong.any(|pair| pair.kind == Kind::Crossed);
+        let mut wrong = pairs.wrong.iter().filter(|pair| pair.names(name));
+        let is_tied = wrong.any(|pair| pair.kind != Kind::Crossed);
+        match (is_crossed, is_tied) {
+            (false, false) => Style {
+                stroke: r##"stroke="#8896a5" stroke-width="2""##,
+                dot: "#8896a5",
+            },
+            (false, true) => Style {
+                stroke: r##"stroke="#333" stroke-width="3" stroke-dasharray="7 4""##,
+                dot: "#333",
+            },
+            (true, false) => Style {
+                stroke: r##"stroke="#d1332e" stroke-width="3""##,
+                dot: "#d1332e",
+            },
+            (true, true) => Style {
+                stroke: r##"stroke="#d1332e" stroke-width="3" stroke-dasharray="7 4""##,
+                dot: "#d1332e",
+            },
+        }
     }
 }
 
-fn link(rows: &[u64], i: usize, from: u64, to: u64) {
-    let style = style(rows, i);
-    phrases::tell(
-        phrases::LINK,
-        from,
-        to,
-        plus(phrases::STROKES, style),
-        plus(phrases::DOTS, style),
-    );
-    fill(phrases::RANK, rows, i, plus(to, 4), 0, 0, 0);
-    if table::such(rows, table::OLD_EQUAL, i, i) == 0 {
-        fill(phrases::OLD_RANK, rows, i, plus(from, 4), 0, 0, 0);
-    }
-}
-
-// 2 where a pair of it is the wrong way round, and 1 more where it was not told apart from another, or only by the old bench.
-fn style(rows: &[u64], i: usize) -> u64 {
-    let n = table::settings(rows);
-    let crossed = table::such(rows, table::CROSSED, i, n);
-    let tied = plus(
-        table::such(rows, table::MISSED, i, n),
-        table::such(rows, table::INVENTED, i, n),
-    );
-    plus(when(0 < crossed, 2), when(0 < tied, 1))
+fn link<W: Write>(out: &mut W, placed: &PlacedRow<'_>, style: Style) -> io::Result<()> {
+    let Style { stroke, dot } = style;
+    let from = placed.old_y + 20;
+    let to = placed.y + 20;
+    writeln!(out, r#"<path d="M714 {from}L814 {to}" {stroke}/>"#)?;
+    writeln!(out, r#"<circle cx="714" cy="{from}" r="4" fill="{dot}"/>"#)?;
+    writeln!(out, r#"<circle cx="814" cy="{to}" r="4" fill="{dot}"/>"#)?;
+    writeln!(
+        out,
+        r#"<text x="824" y="{}" font-size="12">{}</text>"#,
+        to + 4,
+        placed.row.rank
+    )
 }

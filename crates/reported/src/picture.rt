@@ -1,172 +1,298 @@
-// The report as an SVG picture. Along a line places and lengths are in tenths of a pixel.
-use crate::phrases::{fill, say, tell};
-use crate::table::{of, plus};
-use crate::{bars, layout, links, phrases, table, words};
+// The report as an SVG picture.
+use crate::batch::{Batch, Chips, Group, Row, Timed};
+use crate::forms::{Clock, Grouped, plural};
+use crate::job::Job;
+use crate::layout::{Layout, Y};
+use crate::pairs::Pairs;
+use crate::phases::Phase;
+use crate::{bars, links};
+use std::alloc::Global;
+use std::io::Write;
+use std::{fmt, io};
 
-pub(crate) fn report(name: &[u8], rows: &[u64]) {
-    let end = layout::row(rows, table::settings(rows));
-    head(name, rows, plus(end, foot(rows)));
-    legend(rows);
-    bars::draw(rows);
-    links::draw(rows);
-    close(rows, end);
-    say(phrases::END);
+// What is good, and what is not.
+pub const GREEN: &str = "#11744a";
+
+pub const RED: &str = "#b02a26";
+
+pub fn report<W: Write>(alloc: Global, out: &mut W, batch: &Batch<'_>) -> io::Result<()> {
+    let layout = Layout::of(alloc, batch)?;
+    head(out, batch, layout.end + foot(batch))?;
+    if let Some(first) = batch.rows.first() {
+        legend(out, first)?;
+        heads(out, &batch.job)?;
+    }
+    bars::draw(out, &layout)?;
+    links::draw(out, &layout, &batch.pairs)?;
+    if !batch.rows.is_empty() {
+        close(out, &batch.pairs, layout.end)?;
+    }
+    writeln!(out, "</svg>")
 }
 
 // The room for the closing lines: none, one or two.
-fn foot(rows: &[u64]) -> u64 {
-    if table::is_refused(rows, 0) {
-        return 10;
+fn foot(batch: &Batch<'_>) -> u64 {
+    if batch.rows.is_empty() {
+        10
+    } else if batch.pairs.wrong.is_empty() {
+        54
+    } else {
+        78
     }
-    if table::pairs(rows, table::WRONG) == 0 {
-        return 54;
-    }
-    78
 }
 
 // The picture's size and what it is, the headline, and what was loaded.
-fn head(name: &[u8], rows: &[u64], height: u64) {
-    let ties = table::such(rows, table::EQUAL, 0, table::settings(rows));
-    tell(phrases::FRAME, height, 0, 0, 0);
-    words::name(name, true);
-    fill(phrases::DESCRIPTION, rows, 0, 0, 0, 0, 0);
-    headline(rows, ties);
-    say(phrases::AND_VERDICT);
-    words::verdict(rows);
-    tell(
-        phrases::GROUND,
-        height,
-        letters(of(rows, table::GROUP, 0), ties),
-        0,
-        0,
-    );
-    headline(rows, ties);
-    say(phrases::IMAGE);
-    words::name(name, true);
-    fill(phrases::SESSION, rows, 0, 0, 0, 0, 0);
+fn head<W: Write>(out: &mut W, batch: &Batch<'_>, height: Y) -> io::Result<()> {
+    let job = &batch.job;
+    let title = Escaped(job.title.as_str());
+    let headline = Headline(&*batch);
+    writeln!(
+        out,
+        r#"<svg xmlns="http://www.w3.org/2000/svg" role="img" viewBox="0 0 1320 {height}" width="1320" height="{height}" font-family="DejaVu Sans, Verdana, Arial, sans-serif" font-size="13">"#
+    )?;
+    writeln!(
+        out,
+        "<title>Batch report: {title}, {} tracker{}</title>",
+        Grouped(u64::from(job.trackers)),
+        plural(usize::from(job.trackers))
+    )?;
+    writeln!(out, "<desc>{headline}. {}.</desc>", batch.pairs)?;
+    writeln!(
+        out,
+        r##"<defs><pattern id="hatch" width="6" height="6" patternUnits="userSpaceOnUse" patternTransform="rotate(45)"><rect width="6" height="6" fill="#fff"/><rect width="3" height="6" fill="#d1332e"/></pattern></defs>"##
+    )?;
+    writeln!(
+        out,
+        r##"<rect x="0.0" y="0" width="1320.0" height="{height}" fill="#fff"/>"##
+    )?;
+    writeln!(
+        out,
+        r#"<text x="16" y="32" font-size="{}" font-weight="bold">{headline}</text>"#,
+        letters(batch)
+    )?;
+    writeln!(
+        out,
+        r##"<text x="16" y="54" fill="#555">{title}, {} bytes, command {} ({}), {} pulses a tracker</text>"##,
+        Grouped(job.image.len() as u64),
+        job.command.number(),
+        job.command,
+        Grouped(batch.pulses())
+    )?;
+    writeln!(
+        out,
+        r##"<text x="16" y="72" fill="#555">Line time of a chip that is never busy; reset and handling are not counted. Sums are exact; what is shown of them is cut, not rounded.</text>"##
+    )
+}
+
+// A text with what XML needs.
+#[derive(Clone, Copy)]
+struct Escaped<'a>(&'a str);
+
+impl fmt::Display for Escaped<'_> {
+    fn fmt<W: fmt::Write>(&self, f: &mut fmt::Formatter<W>) -> fmt::Result {
+        for c in self.0.chars() {
+            match c {
+                '&' => f.write_str("&amp;")?,
+                '<' => f.write_str("&lt;")?,
+                '>' => f.write_str("&gt;")?,
+                '"' => f.write_str("&quot;")?,
+                _ => f.write_char(c)?,
+            }
+        }
+        Ok(())
+    }
 }
 
 // ---- The headline
 
-// The longer headlines have smaller letters.
-fn letters(group: u64, ties: u64) -> u64 {
-    if group == table::NOT_FOR_ALL {
-        return 16;
-    }
-    if 1 < ties {
-        return 16;
-    }
-    21
-}
-
-// With how many settings share the first place.
-fn headline(rows: &[u64], ties: u64) {
-    match of(rows, table::GROUP, 0) {
-        table::SAFE => share(rows, phrases::HEADLINES, ties),
-        table::NOT_FOR_ALL => warn(rows, ties),
-        _ => refuse(table::settings(rows) as u64),
+// The size of its letters: longer ones have smaller letters.
+fn letters(batch: &Batch<'_>) -> u32 {
+    match batch.fastest() {
+        [] => 21,
+        [one] if one.setting.group == Group::Safe => 21,
+        _ => 16,
     }
 }
 
-// A headline for one, for two or for more that share the first place.
-fn share(rows: &[u64], one: u32, ties: u64) {
-    let more = table::minus(ties, 2);
-    match ties {
-        1 => fill(one, rows, 0, 0, 0, 0, 0),
-        2 => fill(words::nth(one, 1), rows, 0, 1, 0, 0, 0),
-        _ => fill(words::nth(one, 2), rows, 0, 1, more, 0, 0),
+// Which setting to choose, a sentence without its stop.
+#[derive(Clone, Copy)]
+struct Headline<'a>(&'a Batch<'a>);
+
+impl fmt::Display for Headline<'_> {
+    fn fmt<W: fmt::Write>(&self, f: &mut fmt::Formatter<W>) -> fmt::Result {
+        let batch = self.0;
+        match batch.fastest() {
+            [] => write_refused(f, batch.refused.len()),
+            [only] => {
+                write_choice(f, batch, only, "is")?;
+                write_caveat(f, &only.setting)
+            }
+            [first, ..] => write_choice(f, batch, first, "are"),
+        }
     }
 }
 
-fn warn(rows: &[u64], ties: u64) {
-    share(rows, words::nth(phrases::HEADLINES, 3), ties);
-    if ties == 1 {
-        fill(
-            words::nth(phrases::CAVEATS, of(rows, table::KIND, 0)),
-            rows,
-            0,
-            0,
-            0,
-            0,
-            0,
-        );
-    }
-}
-
-fn refuse(n: u64) {
+fn write_refused<W: fmt::Write>(f: &mut fmt::Formatter<W>, n: usize) -> fmt::Result {
     if n == 1 {
-        return say(phrases::ONE_REFUSED);
+        write!(f, "No setting can be used: the only one is refused")
+    } else {
+        write!(f, "No setting can be used: all {n} are refused")
     }
-    tell(phrases::ALL_REFUSED, n, 0, 0, 0);
+}
+
+fn write_choice<W: fmt::Write>(
+    f: &mut fmt::Formatter<W>,
+    batch: &Batch<'_>,
+    first: &Row<'_>,
+    verb: &str,
+) -> fmt::Result {
+    let fastest = batch.fastest();
+    let clock = Clock(first.setting.times.all);
+    match first.setting.group {
+        Group::Safe => write!(
+            f,
+            "Choose {}: {clock} for {} tracker{}, the fastest that {verb} safe for every chip",
+            Names {
+                rows: fastest,
+                word: "or"
+            },
+            Grouped(u64::from(batch.job.trackers)),
+            plural(usize::from(batch.job.trackers))
+        ),
+        Group::NotForAll => write!(
+            f,
+            "No setting is safe for every chip: {} {verb} the fastest, {clock}",
+            Names {
+                rows: fastest,
+                word: "and"
+            }
+        ),
+    }
+}
+
+// Names with a word between them, of which two are written out.
+#[derive(Clone, Copy)]
+struct Names<'a> {
+    rows: &'a [Row<'a>],
+    word: &'static str,
+}
+
+impl fmt::Display for Names<'_> {
+    fn fmt<W: fmt::Write>(&self, f: &mut fmt::Formatter<W>) -> fmt::Result {
+        let Names { rows, word } = *self;
+        match rows {
+            [] => Ok(()),
+            [a] => write!(f, "{}", a.setting.name),
+            [a, b] => write!(f, "{} {word} {}", a.setting.name, b.setting.name),
+            [a, b, more @ ..] => {
+                let more = more.len();
+                write!(
+                    f,
+                    "{}, {} {word} {more} more",
+                    a.setting.name, b.setting.name
+                )
+            }
+        }
+    }
+}
+
+// For which chips the only setting is not safe.
+fn write_caveat<W: fmt::Write>(f: &mut fmt::Formatter<W>, setting: &Timed<'_>) -> fmt::Result {
+    match setting.chips {
+        Chips::All if setting.group == Group::Safe => Ok(()),
+        Chips::All => write!(f, ", but its h is below t"),
+        Chips::None => write!(f, ", but its margin is enough for no chip"),
+        Chips::UpTo(longest) => {
+            write!(f, ", for chips up to {} ns", longest / 1_000)?;
+            if setting.is_short_spaced() {
+                write!(f, ", but its h is below t")?;
+            }
+            Ok(())
+        }
+    }
 }
 
 // ---- The legend and the heads of the columns
 
-fn legend(rows: &[u64]) {
-    if table::is_refused(rows, 0) {
-        return;
+fn legend<W: Write>(out: &mut W, first: &Row<'_>) -> io::Result<()> {
+    let mut x = 16u64;
+    for (phase, ns) in Phase::all().iter().zip(&first.setting.times.phases) {
+        if *ns != 0 {
+            let Phase {
+                name,
+                colour,
+                legend,
+                ..
+            } = *phase;
+            writeln!(
+                out,
+                r#"<rect x="{x}.0" y="85" width="13.0" height="13" fill="{colour}"/>"#
+            )?;
+            writeln!(
+                out,
+                r#"<text x="{}" y="96">{name}</text>"#,
+                x.saturating_add(18)
+            )?;
+            x = x.saturating_add(legend);
+        }
     }
-    let mut x = 16;
-    for phase in 0..10 {
-        x = legend_phase(of(rows, table::PHASES + phase, 0), phase as u64, x);
-    }
-    say(phrases::LEGEND);
-    fill(phrases::HEADS, rows, 0, 0, 0, 0, 0);
+    writeln!(out, "{LEGEND}")
 }
 
-// A phase that the session has, and where the next one is written.
-fn legend_phase(ns: u64, phase: u64, x: u64) -> u64 {
-    if ns == 0 {
-        return x;
-    }
-    tell(
-        phrases::LEGEND_PHASE,
-        x % 1_320 * 10,
-        plus(phrases::COLOURS, phase),
-        plus(x, 18),
-        plus(phrases::NAMES, phase),
-    );
-    plus(x, width(phase))
+const LEGEND: &str = r##"<rect x="16.0" y="107" width="26.0" height="13" fill="url(#hatch)"/>
+<text x="48" y="118">left out by the old bench</text>
+<path d="M244.0 105v17" stroke="#000" stroke-width="3"/>
+<text x="252" y="118">where the old bench stopped</text>
+<text x="470" y="118" fill="#555">order:</text>
+<path d="M516 114L542 114" stroke="#d1332e" stroke-width="3"/>
+<text x="548" y="118">in a pair the wrong way round</text>
+<path d="M760 114L786 114" stroke="#333" stroke-width="3" stroke-dasharray="7 4"/>
+<text x="792" y="118">in a tie that it missed or made up</text>
+<path d="M1040 114L1066 114" stroke="#8896a5" stroke-width="2"/>
+<text x="1072" y="118">right</text>
+<rect x="1120.0" y="107" width="26.0" height="13" fill="#5bb381"/>
+<text x="1152" y="118">loops it is safe for</text>"##;
+
+fn heads<W: Write>(out: &mut W, job: &Job) -> io::Result<()> {
+    writeln!(out, "{SETTING_HEAD}")?;
+    writeln!(
+        out,
+        r#"<text x="220" y="150" font-weight="bold">exact time for {} tracker{}</text>"#,
+        Grouped(u64::from(job.trackers)),
+        plural(usize::from(job.trackers))
+    )?;
+    writeln!(out, "{OTHER_HEADS}")
 }
 
-// How much room a phase takes there.
-fn width(phase: u64) -> u64 {
-    match phase {
-        0 => 108,
-        1 => 106,
-        2 => 110,
-        3 => 84,
-        4 => 98,
-        5 => 62,
-        6 => 72,
-        7 => 60,
-        8 => 118,
-        _ => 110,
-    }
-}
+const SETTING_HEAD: &str = r##"<text x="16" y="150" font-weight="bold">setting</text>
+<text x="16" y="166" fill="#555" font-size="11">t / h us, p ns</text>"##;
+
+const OTHER_HEADS: &str =
+    r##"<text x="220" y="166" fill="#555" font-size="11">h:mm:ss, behind the first; the old bench, what it left out</text>
+<text x="690" y="150" font-weight="bold">order: old, exact</text>
+<text x="690" y="166" fill="#555" font-size="11">ranks in the group</text>
+<text x="870" y="150" font-weight="bold">all but the image</text>
+<text x="870" y="166" fill="#555" font-size="11">one tracker, on a scale of its own</text>
+<text x="1120" y="150" font-weight="bold">safe for chip loops</text>
+<text x="1120" y="166" fill="#555" font-size="11">from 400 to 1,000 ns</text>"##;
 
 // ---- The end
 
-fn close(rows: &[u64], end: u64) {
-    if table::is_refused(rows, 0) {
-        return;
+fn close<W: Write>(out: &mut W, pairs: &Pairs<'_>, end: Y) -> io::Result<()> {
+    let fill = if pairs.wrong.is_empty() { GREEN } else { RED };
+    let rule = end + 8;
+    writeln!(out, r##"<path d="M16 {rule}L1304 {rule}" stroke="#999"/>"##)?;
+    writeln!(
+        out,
+        r#"<text x="16" y="{}" font-size="15" font-weight="bold" fill="{fill}">{pairs}.</text>"#,
+        end + 36
+    )?;
+    if let Some(worst) = pairs.worst() {
+        writeln!(
+            out,
+            r#"<text x="16" y="{}" font-size="14" fill="{RED}">The worst: {worst}.</text>"#,
+            end + 60
+        )?;
     }
-    if table::pairs(rows, table::WRONG) == 0 {
-        tell(phrases::ALL_RIGHT, plus(end, 8), plus(end, 36), 0, 0);
-    } else {
-        tell(phrases::SOME_WRONG, plus(end, 8), plus(end, 36), 0, 0);
-    }
-    words::verdict(rows);
-    say(phrases::END_TEXT);
-    worst(rows, plus(end, 60));
-}
-
-fn worst(rows: &[u64], y: u64) {
-    let worst = words::worst(rows);
-    if worst == 0 {
-        return;
-    }
-    tell(phrases::WORST, y, 0, 0, 0);
-    words::pair(rows, worst % 32, worst / 32);
-    say(phrases::END_TEXT);
+    Ok(())
 }
