@@ -3,13 +3,14 @@
 use mathlib.Core.Bool.{Bool, true, false}
 use mathlib.Core.List.{List, [], ◌∷◌, map}
 use mathlib.Core.Logic.{inl}
-use mathlib.Core.Path.{◌≡◌, refl, sym, ap, ◌∙◌, subst}
+use mathlib.Core.Path.{◌≡◌, refl, sym, ap, ◌∙◌}
 use Prim.Native.Nat.{ℕ, zero, suc, ◌+◌, ◌-◌, ◌*◌, ◌≤◌, ◌<◌, min}
 use native.Mathlib.Omega.{arith}
 use lib.Dec.{ltb}
 use lib.ListN.{length}
 use borrow.Author.Tests.{le-leb, lt-leb, lt-ltb, ltb-true, ltb-false}
-use Rattle.std.specs.Prelude.{Option, None, Some}
+use Rattle.std.specs.Prelude.{Some}
+use Rattle.std.proofs.lemmas.Option.{none-some}
 use Rattle.terms.specs.Choice.{when}
 use Rattle.terms.proofs.Refusals.{taken_exactly}
 use Rattle.terms.proofs.Tests.{when_true, when_false, when_elim, either_true, either_false}
@@ -189,24 +190,18 @@ module _ (load : Load) (image : List ℕ) (phase : Phase) (i : ℕ) (on : ended 
   by_pairs packing true p = rw (p) (frame_spells true (false ∷ []) (omega arith))
   by_pairs packing false p = rw (p) (run_spells packing p)
 
-byte_in : Option ℕ → ℕ
-byte_in None = 0
-byte_in (Some b) = b
-
-unfoldable pub is_byte : Option ℕ → Type 0
-is_byte None = ⊥
-is_byte (Some b) = Unit {0}
-
 -- The byte of a turn, from where what came back has led.
 module _ (s : Serial) (image : List ℕ) (p : Place) (h : p.index < places s.load p.phase) (byte : ℕ) where
   abbrev Spelt : Turn → Type 0
   Spelt t = t.sent ≡ Some byte → low_runs byte ≡ map run (held s.packing s.load image p.phase p.index)
 
   turn_spells : Spelt (turn_at s image p.phase p.index)
-  unfolding turn_at byte_in is_byte
+  unfolding turn_at
   turn_spells =
-      when_elim Spelt (ended p.phase) _ _ (λ e q. absurd (subst is_byte (sym q) tt))
-      (λ e q. ap low_runs (sym (ap byte_in q)) ∙ by_pairs s.load image p.phase p.index e h s.packing (in_pairs p.phase) refl)
+      when_elim Spelt (ended p.phase) _ _ (λ e q. absurd (none-some _ q))
+      (λ e q.
+      let same : byte ≡ byte_of (sent_at s.packing s.load image p.phase p.index).frame.lows = cc in
+      ap low_runs same ∙ by_pairs s.load image p.phase p.index e h s.packing (in_pairs p.phase) refl)
 
 pub every_byte : EveryByte
 unfolding serial_step turn_of

@@ -9,7 +9,8 @@ use native.Mathlib.Omega.{arith}
 use lib.Dec.{eqb, ltb}
 use lib.ListN.{length, replicate, length-map}
 use borrow.Author.Tests.{lt-leb, ltb-true, ltb-false}
-use Rattle.std.specs.Prelude.{Option, None, Some}
+use Rattle.std.specs.Prelude.{Option, None}
+use Rattle.std.proofs.lemmas.Option.{none-some}
 use Rattle.terms.specs.Refusals.{Answer, refused, taken}
 use Rattle.terms.proofs.Refusals.{clear_taken, taken_alike}
 use Rattle.terms.proofs.Tests.{when_true, when_false, when_elim, either_false, less_false}
@@ -40,13 +41,8 @@ use Rattle.sessions.proofs.Spells.{Loads, spelled_sent}
 use Rattle.spelling.specs.Spelling.{Told, runs_on, sent_by, handed, serials, wires, runs_of, told, tolds, spelled_by, SameBits, EverySerial}
 use Rattle.spelling.proofs.Bytes.{bytes_at, bytes_most}
 use Rattle.spelling.proofs.Calls.{byte_carries}
-use Rattle.spelling.proofs.Packed.{is_byte}
 use Rattle.serial.proofs.Places.{resumed_settled, resumed_here, ended_settled, first_settled}
 use Rattle.spelling.proofs.Says.{Says, said, says_append, says_stands, says_same, Stepped, says_steps}
-
-byte_is_sent : (b : ℕ) → Some b ≡ None → ⊥
-unfolding is_byte
-byte_is_sent b e = subst is_byte e tt
 
 -- An answer, said by its parts.
 by_parts : (s : Serial) (a : Answer Turn) (t : Turn) → a ≡ taken t → a ≡ taken (record { sent = sent_by a; serial = handed s a })
@@ -185,7 +181,7 @@ module _ (packing : Packing) (load : Load) (lent : ℕ → List ℕ) (back : ℕ
           let c = byte_carries packing load long (told x lent back n) (same n) here.phase here.index (length (tolds x lent back n)) e
           (resumed_settled load a.place.phase a.place.index (came (back n))) (stands_at n a) in
           at_next (byte_sent (moved_to x a.place) f) f.place c.bits (when_false _ _ e) refl
-          (not_outside load c.count f.place c.inside) c.runs c.sent (λ go. c.grows) (λ go. byte_is_sent _)
+          (not_outside load c.count f.place c.inside) c.runs c.sent (λ go. c.grows) (λ go e. none-some _ (sym e))
 
       by_ended : (b : Bool) → ended here.phase ≡ b → At (suc n)
       by_ended true e = ends_here e
