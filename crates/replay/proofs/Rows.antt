@@ -4,40 +4,36 @@ use mathlib.Core.Bool.{false}
 use mathlib.Core.List.{List}
 use mathlib.Core.Path.{◌≡◌, sym, ap, ◌∙◌}
 use Prim.Native.Nat.{ℕ}
-use Rattle.std.specs.Prelude.{Result, Ok, Err}
-use Rattle.terms.specs.Refusals.{refused, taken, first, number, told}
-use Rattle.terms.specs.declared.Refusal.{Refusal}
+use Rattle.terms.specs.Refusals.{refused, taken, first}
 use Rattle.terms.proofs.Refusals.{Clear, clear_taken, taken_exactly, refused_before, taken_before, refused_alike}
 use Rattle.eeprom.specs.declared.Fault.{Fault}
-use Rattle.chip.specs.Step.{fresh, start_rows, chip_start, told_started}
+use Rattle.chip.specs.Step.{fresh, start_rows, chip_start}
 use Rattle.chip.specs.declared.Chip.{Chip}
-use Rattle.chip.specs.declared.Started.{Started}
-use Rattle.chip.specs.declared.Started.TheVariants as started
 use Rattle.trace.specs.Traces.{is_faulty, list_of, numbers_of, file_rows, judgement}
 use Rattle.replay.specs.Replay.{state, played, Outcome, outcome, left, finished, unless_refused, replay_rows, replay_of}
 
-module _ (trace : List ℕ) (fault : Fault) (ram eeprom : List ℕ) (s : Started) (p : told_started s ≡ chip_start ram eeprom fault) where
-  pub start_refused : (n : ℕ) → s ≡ started.Refused n → left (refused n) ram eeprom ≡ replay_of trace fault ram eeprom
+module _ (trace : List ℕ) (fault : Fault) (ram eeprom : List ℕ) where
+  pub start_refused : (n : ℕ) → refused n ≡ chip_start ram eeprom fault → left (refused n) ram eeprom ≡ replay_of trace fault ram eeprom
   unfolding replay_of chip_start
-  start_refused n e =
-      let r : first (start_rows ram eeprom fault) (fresh fault) ≡ refused n = sym p ∙ ap told_started e in
-      sym (ap (unless_refused fault ram eeprom) (refused_before (file_rows trace) (fresh fault) (list_of (numbers_of trace)) n (start_rows ram eeprom fault) r))
+  start_refused n p =
+      sym
+      (ap (unless_refused fault ram eeprom)
+      (refused_before (file_rows trace) (fresh fault) (list_of (numbers_of trace)) n (start_rows ram eeprom fault) (sym p)))
 
-  module _ (c : Chip) (e : s ≡ started.Taken c) (j : Result (Unit {0}) Refusal) (q : told j ≡ judgement trace) where
+  module _ (c : Chip) (p : taken c ≡ chip_start ram eeprom fault) where
     past : (first (replay_rows trace fault ram eeprom) (list_of (numbers_of trace)) ≡ first (file_rows trace) (list_of (numbers_of trace))) × (c ≡ fresh fault)
     unfolding chip_start
-    past = taken_before (file_rows trace) (fresh fault) (list_of (numbers_of trace)) c (start_rows ram eeprom fault) (sym p ∙ ap told_started e)
+    past = taken_before (file_rows trace) (fresh fault) (list_of (numbers_of trace)) c (start_rows ram eeprom fault) (sym p)
 
-    pub file_refused : (why : Refusal) → j ≡ Err why → left (refused (number why)) ram eeprom ≡ replay_of trace fault ram eeprom
+    pub file_refused : (n : ℕ) → refused n ≡ judgement trace → left (refused n) ram eeprom ≡ replay_of trace fault ram eeprom
     unfolding replay_of judgement
-    file_refused why f =
-        let r : first (file_rows trace) tt ≡ refused (number why) = sym q ∙ ap told f in
-        sym (ap (unless_refused fault ram eeprom) (past.0 ∙ refused_alike (file_rows trace) tt (list_of (numbers_of trace)) (number why) r))
+    file_refused n q =
+        sym (ap (unless_refused fault ram eeprom) (past.0 ∙ refused_alike (file_rows trace) tt (list_of (numbers_of trace)) n (sym q)))
 
-    module _ (f : j ≡ Ok tt) where
+    module _ (q : taken tt ≡ judgement trace) where
       clear : Clear (file_rows trace)
       unfolding judgement
-      clear = ((taken_exactly tt tt (file_rows trace)).0 (sym q ∙ ap told f)).0
+      clear = ((taken_exactly tt tt (file_rows trace)).0 (sym q)).0
 
       pub file_sound : is_faulty (numbers_of trace) ≡ false
       file_sound = clear.1.0

@@ -8,15 +8,17 @@ use native.Mathlib.Omega.{arith}
 use borrow.Author.Tests.{leb-true, leb-false}
 use lib.Dec.{leb}
 use lib.ListN.{length, drop, drop_of_length-le}
-use Rattle.std.specs.Prelude.{Option, None, Some, Result, Ok, Err}
+use Rattle.std.specs.Prelude.{Option, None, Some, Result, Ok, Err, is_some}
 use Rattle.terms.proofs.Tests.{when_true, when_false}
 use Rattle.units.specs.Units.{loops_of}
+use Rattle.phases.specs.Endings.{told_end, end_at}
 use Rattle.phases.specs.Phases.{ended}
-use Rattle.chip.specs.Step.{left, chip_step, told_stepped}
+use Rattle.phases.specs.declared.Ending.{Ending}
+use Rattle.phases.specs.declared.Phase.{Phase}
+use Rattle.phases.proofs.Endings.{listens, has_ended}
+use Rattle.terms.specs.Refusals.{Answer}
+use Rattle.chip.specs.Step.{Reply, left, chip_step}
 use Rattle.chip.specs.declared.Chip.{Chip}
-use Rattle.chip.specs.declared.Played.{Played}
-use Rattle.chip.specs.declared.Stepped.{Stepped}
-use Rattle.chip.specs.declared.Stepped.TheVariants as stepped
 use Rattle.numbers.specs.Numbers.{groups, bound, number_at}
 use Rattle.numbers.specs.declared.Number.{Number}
 use Rattle.numbers.specs.declared.NoNumber.{NoNumber}
@@ -195,15 +197,18 @@ module _ (trace : List ℕ) (end : State) where
                 ∙ k.same;
           }
 
+-- Whether a chip has ended, by its answer.
+module _ (p : Phase) (r : Option Ending) (asked : told_end r ≡ end_at p) where
+  told_over_by : (x : Option Ending) → r ≡ x → is_some r ≡ ended p
+  told_over_by None e = ap is_some e ∙ sym (listens r p asked e)
+  told_over_by (Some x) e = ap is_some e ∙ sym (has_ended r p asked x e)
+
+  pub told_over : is_some r ≡ ended p
+  told_over = told_over_by r refl
+
 -- What the chip's step leaves is what a pulse leaves.
-module _ (c : Chip) (ram eeprom : List ℕ) (wait low : ℕ) (s : Stepped) (x : Chip) (ram' eeprom' : List ℕ)
-    (q : left (told_stepped s) ram' eeprom' ≡ chip_step c ram eeprom wait low) where
-  listen_left : x ≡ replied c (told_stepped s) → state x ram' eeprom' ≡ listened (state c ram eeprom) wait low
+module _ (c : Chip) (ram eeprom : List ℕ) (wait low : ℕ) (a : Answer Reply) (x : Chip) (ram' eeprom' : List ℕ) where
+  pub listen_left : left a ram' eeprom' ≡ chip_step c ram eeprom wait low → x ≡ replied c a
+      → state x ram' eeprom' ≡ listened (state c ram eeprom) wait low
   unfolding listened
-  listen_left h = ap (λ (y : Chip). state y ram' eeprom') h ∙ ap (kept c) q
-
-  pub listen_refused : (n : ℕ) → s ≡ stepped.Refused n → x ≡ c → state x ram' eeprom' ≡ listened (state c ram eeprom) wait low
-  listen_refused n e h = listen_left (h ∙ ap (λ (a : Stepped). replied c (told_stepped a)) (sym e))
-
-  pub listen_played : (p : Played) → s ≡ stepped.Taken p → x ≡ p.chip → state x ram' eeprom' ≡ listened (state c ram eeprom) wait low
-  listen_played p e h = listen_left (h ∙ ap (λ (a : Stepped). replied c (told_stepped a)) (sym e))
+  listen_left q h = ap (λ (y : Chip). state y ram' eeprom') h ∙ ap (kept c) q

@@ -1,8 +1,9 @@
 -- 02, "Three": "a replay through the chip model that reports the ending"; and "Four": with the nearest low on each side.
 -- Assumes nothing.
-use Rattle.std.specs.Prelude.{List, [], ◌∷◌, ◌++◌, ℕ}
+use Rattle.std.specs.Prelude.{List, [], ◌∷◌, ◌++◌, ℕ, Result, Ok, Err}
 use Rattle.terms.specs.Choice.{when}
-use Rattle.terms.specs.Refusals.{Row, Answer, refused, taken, first}
+use Rattle.terms.specs.Refusals.{Row, Answer, refused, taken, first, number}
+use Rattle.terms.specs.declared.Refusal.{Refusal}
 use Rattle.units.specs.Units.{loops_of}
 use Rattle.phases.specs.Endings.{End, end_at, told_end}
 use Rattle.phases.specs.Phases.{ended}
@@ -12,8 +13,6 @@ use Rattle.chip.specs.Step.{Reply, fresh, start_rows, chip_step}
 use Rattle.chip.specs.Step as step
 use Rattle.chip.specs.declared.Chip.{Chip}
 use Rattle.trace.specs.Traces.{list_of, numbers_of, file_rows}
-use Rattle.replay.specs.declared.Replayed.{Replayed}
-use Rattle.replay.specs.declared.Replayed.TheVariants as replayed
 use Rattle.replay.specs.declared.Report.{Report}
 
 -- A chip with its memories.
@@ -80,6 +79,6 @@ replay_of trace fault ram eeprom =
 abbrev pub told_report : Report → Outcome
 told_report r = record { chip = told_end r.chip; nearest = margins.told r.nearest }
 
-abbrev pub told_replayed : Replayed → Answer Outcome
-told_replayed (replayed.Refused n) = refused n
-told_replayed (replayed.Finished r) = taken (told_report r)
+abbrev pub told_replayed : Result Report Refusal → Answer Outcome
+told_replayed (Err r) = refused (number r)
+told_replayed (Ok r) = taken (told_report r)

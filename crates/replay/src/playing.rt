@@ -4,8 +4,7 @@ ghost use Rattle.trace.specs.Traces.{is_faulty, list_of, numbers_of};
 ghost use Rattle.replay.specs.Replay.{listened, played, state};
 
 use crate::pulses::pulse_at;
-use chip::{Chip, Played, Stepped};
-use phases::ChipEnd;
+use chip::Chip;
 use units::{Bytes, Loops};
 
 // Pulses until the chip has ended, or the trace.
@@ -16,8 +15,7 @@ pub(crate) fn play(start: Chip, trace: &[u8], ram: &mut [u8], eeprom: &mut [u8])
     let mut chip = start;
     let mut at = 1;
     while at < trace.len() {
-        let end = chip.end();
-        if let ChipEnd::Ended(_) = end {
+        if chip.end().is_some() {
             return chip;
         }
         let Some(pulse) = pulse_at(trace, Bytes(at)) else {
@@ -34,13 +32,7 @@ fn listen(chip: Chip, ram: &mut [u8], eeprom: &mut [u8], wait: Loops, low: Loops
     ensures { state result ram.new eeprom.new ≡ listened (state chip ram.old eeprom.old) wait.0 low.0 }
 {
     match chip.step(ram, eeprom, wait, low) {
-        Stepped::Refused(_) => chip,
-        Stepped::Taken(played) => after(played),
+        Ok(played) => played.chip,
+        Err(_) => chip,
     }
-}
-
-fn after(played: Played) -> Chip
-    ensures { result ≡ played.chip }
-{
-    played.chip
 }

@@ -1,10 +1,11 @@
--- `replay::listen`: by what the chip's step answers.
+-- `playing::listen`: by what the chip's step answers.
 -- Assumes nothing.
-use Rattle.replay.proofs.Turns.{listen_refused, listen_played}
+use mathlib.Core.Path.{refl}
+use Rattle.replay.proofs.Turns.{listen_left}
 use Rattle.replay.proofs.playing.listen.Goals as goal
 
-pub returns-in-Refused : goal.returns-in-Refused
-returns-in-Refused c = search listen_refused
+pub returns-in-Ok : goal.returns-in-Ok
+returns-in-Ok c = listen_left _ _ _ _ _ _ _ _ _ c.in-Ok.ensures refl
 
-pub returns-in-Taken : goal.returns-in-Taken
-returns-in-Taken c = search listen_played
+pub returns-in-Err : goal.returns-in-Err
+returns-in-Err c = listen_left _ _ _ _ _ _ _ _ _ c.in-Err.ensures refl
