@@ -33,11 +33,6 @@ zeros_cut m n =
     ∙ ap (λ (l : List ℕ). l ++ replicate n 0)
     (sym (replicate-append-replicate (m + 4) 4 0) ∙ ap (λ (l : List ℕ). l ++ zeros) (sym (replicate-append-replicate m 4 0)))
 
-append_five : (a b c d e : List ℕ) → a ++ b ++ c ++ d ++ e ≡ a ++ (b ++ c ++ d ++ e)
-append_five a b c d e =
-    ap (λ (l : List ℕ). l ++ e) (ap (λ (l : List ℕ). l ++ d) (append_assoc a b c) ∙ append_assoc a (b ++ c) d)
-    ∙ append_assoc a (b ++ c ++ d) e
-
 -- The two flag longs over eight bytes that end at D.
 module _ (front back : List ℕ) (d : ℕ) (begins : length front + 8 ≡ d) (ends : d + length back ≡ 32768) (aligned : d % 4 ≡ 0) where
   flag_stored_lem : (at : ℕ) (a b : List ℕ) → length a ≡ at → at < 32768 → flag_stored at (a ++ zeros ++ b) ≡ a ++ flag ++ b
@@ -83,7 +78,7 @@ module _ (image : List ℕ) (good : Good image) where
       let count : 32768 - length image ≡ stack - 8 - length image + 4 + 4 + (32768 - stack) = omega arith in
       ap (λ (n : ℕ). image ++ replicate n 0) count
       ∙ ap (λ (l : List ℕ). image ++ l) (zeros_cut (stack - 8 - length image) (32768 - stack))
-      ∙ sym (append_five image before zeros zeros after)
+      ∙ simp append_assoc
 
   pub image_flagged : flagged (image ++ replicate (32768 - length image) 0) ≡ final_ram image
   unfolding flagged final_ram
@@ -112,7 +107,7 @@ module _ (image : List ℕ) (good : Good image) where
 
   final_more : final_ram image ≡ image ++ more
   unfolding final_ram
-  final_more = append_five image before flag flag after
+  final_more = simp append_assoc
 
   pub final_length : length (final_ram image) ≡ 32768
   unfolding final_ram

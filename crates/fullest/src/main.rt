@@ -4,8 +4,8 @@
 
 use chip::{Chip, Played};
 use eeprom::Fault;
-use phases::Ending;
-use units::{Distance, Loops, Seen};
+use std::io;
+use units::{Bytes, Distance, Loops, Seen};
 
 // Its pulses, with each acknowledgement at the second pair.
 const PULSES: u32 = 262_924;
@@ -41,81 +41,62 @@ struct Progress {
     refused: u32,
 }
 
-fn main() {
+fn main(rt: HostRuntime) -> io::Result<()> {
     let image = image::longest();
-    let mut ram = [0u8; 32_768];
-    let mut eeprom = [0u8; 32_768];
-    play(&image, &mut ram, &mut eeprom);
-}
-
-fn play(image: &[u8; 32_760], ram: &mut [u8; 32_768], eeprom: &mut [u8; 32_768]) {
-    match Chip::start(ram, eeprom, Fault::None) {
-        Err(refusal) => line(b"refused ", u64::from(refusal.number())),
+    let mut ram = [0u8; Bytes::MEMORY.0];
+    let mut eeprom = [0u8; Bytes::MEMORY.0];
+    match Chip::start(&ram, &eeprom, Fault::None) {
         Ok(chip) => {
-            let start = Progress {
-                chip,
-                pulses: 0,
-                zeros: 0,
-                ones: 0,
-                refused: 0,
-            };
-            let end = run(start, image, ram, eeprom);
-            print(end);
-            print_sum(b"ram ", ram);
-            print_sum(b"eeprom ", eeprom);
+            let end = run(chip, &image, &mut ram, &mut eeprom);
+            print(&rt, end)?;
+            println!(rt; "ram {}", sum(&ram))?;
+            println!(rt; "eeprom {}", sum(&eeprom))
         }
+        Err(refusal) => println!(rt; "{refusal}"),
     }
 }
 
-fn print(end: Progress) {
+fn print(rt: &impl Print, end: Progress) -> io::Result<()> {
     if end.refused != 0 {
-        line(b"refused ", u64::from(end.refused));
+        println!(rt; "refused {}", end.refused)?;
     }
-    line(b"pulses ", u64::from(end.pulses));
-    line(b"zeros ", u64::from(end.zeros));
-    line(b"ones ", u64::from(end.ones));
+    println!(rt; "pulses {}", end.pulses)?;
+    println!(rt; "zeros {}", end.zeros)?;
+    println!(rt; "ones {}", end.ones)?;
     match end.chip.end() {
-        None => say(b"chip listening\n"),
-        Some(ending) => print_ending(ending),
+        Some(ending) => println!(rt; "chip {ending}")?,
+        None => println!(rt; "chip listening")?,
     }
     let nearest = end.chip.receiver.margins.nearest();
-    print_nearest(b"nearest one ", nearest.one);
-    print_nearest(b"nearest zero ", nearest.zero);
+    print_nearest(rt, "one", nearest.one)?;
+    print_nearest(rt, "zero", nearest.zero)
 }
 
-fn print_nearest(name: &[u8], nearest: Option<Distance>) {
+fn print_nearest(rt: &impl Print, name: &str, nearest: Option<Distance>) -> io::Result<()> {
     match nearest {
-        None => say(b"nothing read\n"),
-        Some(distance) => line(name, distance.size()),
+        Some(distance) => println!(rt; "nearest {name} {}", distance.size()),
+        None => println!(rt; "nothing read"),
     }
-}
-
-fn print_ending(ending: Ending) {
-    match ending {
-        Ending::Launched => say(b"chip launched\n"),
-        Ending::Booted => say(b"chip booted\n"),
-        Ending::Shut => say(b"chip shut\n"),
-        Ending::Off => say(b"chip off\n"),
-    }
-}
-
-fn say(words: &[u8]) {
-    io::write_all(1, words);
 }
 
 // The sum without the first byte: all bytes of a memory with a good checksum, and those of an empty one, sum to 0.
-fn print_sum(name: &[u8], memory: &[u8; 32_768]) {
-    let bytes = &memory[..];
-    line(name, lent::sum(&bytes[1..]) as u64);
+fn sum(memory: &[u8; Bytes::MEMORY.0]) -> u8 {
+    lent::sum(&memory[1..])
 }
 
 fn run(
-    start: Progress,
+    chip: Chip,
     image: &[u8; 32_760],
-    ram: &mut [u8; 32_768],
-    eeprom: &mut [u8; 32_768],
+    ram: &mut [u8; Bytes::MEMORY.0],
+    eeprom: &mut [u8; Bytes::MEMORY.0],
 ) -> Progress {
-    let mut progress = start;
+    let mut progress = Progress {
+        chip,
+        pulses: 0,
+        zeros: 0,
+        ones: 0,
+        refused: 0,
+    };
     for n in 0..PULSES {
         progress = one(progress, low(bit(image, n)), ram, eeprom);
     }
@@ -193,10 +174,4 @@ fn early_bit(n: u32) -> bool {
         return SIZE >> (n - SIZE_AT) & 1 == 1;
     }
     false
-}
-
-fn line(name: &[u8], n: u64) {
-    say(name);
-    io::print_decimal(1, n);
-    say(b"\n");
 }

@@ -4,7 +4,7 @@
 
 use host::Host;
 use place::{Phase, Place};
-use ticks::PhaseTicks;
+use std::io;
 use units::{Seen, Ticks};
 
 // Its pulses, with a RAM acknowledgement at the second pair.
@@ -18,59 +18,50 @@ struct Progress {
     edges: u64,
 }
 
-fn main() {
+fn main(rt: HostRuntime) -> io::Result<()> {
     let image = image::longest();
-    plan(&image);
-}
-
-fn plan(image: &[u8; 32_760]) {
-    match Host::start(8_600, 8_600, 700_000, 1, image) {
-        Err(refusal) => line(b"refused ", u64::from(refusal.number())),
-        Ok(host) => {
-            let start = Progress {
-                host,
-                rise: Ticks(0),
-                edges: 0,
-            };
-            print(run(start, image))
-        }
+    match Host::start(8_600, 8_600, 700_000, 1, &image) {
+        Ok(host) => print(&rt, run(host, &image)),
+        Err(refusal) => println!(rt; "{refusal}"),
     }
 }
 
-fn print(end: Progress) {
-    let host = end.host;
-    let session = host.session;
-    line(b"pulses ", session.pulses as u64);
-    line(b"ones ", session.ones as u64);
-    line(b"zeros ", session.zeros as u64);
-    line(b"ticks ", end.rise.0);
-    line(b"edges ", end.edges);
-    print_phases(host.phases);
-    match host.end() {
-        None => say(b"host going on\n"),
-        Some(ending) => line(b"host ", u64::from(ending.number())),
+fn print(rt: &impl Print, end: Progress) -> io::Result<()> {
+    let session = end.host.session;
+    println!(rt; "pulses {}", session.pulses)?;
+    println!(rt; "ones {}", session.ones)?;
+    println!(rt; "zeros {}", session.zeros)?;
+    println!(rt; "ticks {}", end.rise.0)?;
+    println!(rt; "edges {}", end.edges)?;
+    let phases = end.host.phases;
+    for (name, ticks) in [
+        ("calibration", phases.calibration),
+        ("handshake", phases.handshake),
+        ("connection", phases.connection),
+        ("version", phases.version),
+        ("command", phases.command),
+        ("size", phases.size),
+        ("image", phases.image),
+        ("ram", phases.ram),
+        ("programming", phases.programming),
+        ("verification", phases.verification),
+    ] {
+        println!(rt; "{name} {}", ticks.0)?;
+    }
+    match end.host.end() {
+        Some(ending) => println!(rt; "host {ending}"),
+        None => println!(rt; "host going on"),
     }
 }
 
-fn print_phases(phases: PhaseTicks) {
-    line(b"calibration ", phases.calibration.0);
-    line(b"handshake ", phases.handshake.0);
-    line(b"connection ", phases.connection.0);
-    line(b"version ", phases.version.0);
-    line(b"command ", phases.command.0);
-    line(b"size ", phases.size.0);
-    line(b"image ", phases.image.0);
-    line(b"ram ", phases.ram.0);
-    line(b"programming ", phases.programming.0);
-    line(b"verification ", phases.verification.0);
-}
-
-fn run(start: Progress, image: &[u8]) -> Progress {
-    let mut progress = start;
-    let mut n = 0;
-    while n < PULSES {
+fn run(host: Host, image: &[u8]) -> Progress {
+    let mut progress = Progress {
+        host,
+        rise: Ticks(0),
+        edges: 0,
+    };
+    for _ in 0..PULSES {
         progress = one(progress, image);
-        n += 1;
     }
     progress
 }
@@ -78,56 +69,29 @@ fn run(start: Progress, image: &[u8]) -> Progress {
 // One pulse more; a refused step changes nothing.
 fn one(progress: Progress, image: &[u8]) -> Progress {
     let host = progress.host;
-    let session = host.session;
-    let place = session.place;
-    match host.step(image, reply(place)) {
+    match host.step(image, reply(host.session.place)) {
+        Ok(sent) => Progress {
+            host: sent.host,
+            rise: sent.rise,
+            edges: progress
+                .edges
+                .wrapping_add(sent.fall.0.wrapping_add(sent.rise.0)),
+        },
         Err(_) => progress,
-        Ok(sent) => {
-            let host = sent.host;
-            let rise = sent.rise;
-            let both = std::num::wrapping_add_u64(sent.fall.0, rise.0);
-            Progress {
-                host,
-                rise,
-                edges: std::num::wrapping_add_u64(progress.edges, both),
-            }
-        }
     }
 }
 
 // What a good chip replies to the pulse before the one at a place.
 fn reply(place: Place) -> Seen {
-    let phase = place.phase;
-    let index = place.index;
-    match phase {
-        Phase::Calibration => Seen::Silence,
-        Phase::Handshake => Seen::Silence,
-        Phase::Connection => seen(sequence::draw(251 + index / 2)),
-        Phase::Version(_) => seen(index < 2),
-        Phase::Command => Seen::Silence,
-        Phase::Zeros => Seen::Silence,
-        Phase::Size => Seen::Silence,
-        Phase::Image => Seen::Silence,
-        Phase::Wait(_) => acknowledged(index),
-        Phase::Ended(_) => Seen::Silence,
+    match place.phase {
+        Phase::Connection => seen(sequence::draw(251 + place.index / 2)),
+        Phase::Version(_) => seen(place.index < 2),
+        // The chip aligns on the first pair and answers the next.
+        Phase::Wait(_) if 2 <= place.index => Seen::Zero,
+        _ => Seen::Silence,
     }
 }
 
 fn seen(bit: bool) -> Seen {
     if bit { Seen::One } else { Seen::Zero }
-}
-
-// The chip aligns on the first pair and answers the next.
-fn acknowledged(index: u32) -> Seen {
-    if index < 2 { Seen::Silence } else { Seen::Zero }
-}
-
-fn line(name: &[u8], n: u64) {
-    say(name);
-    io::print_decimal(1, n);
-    say(b"\n");
-}
-
-fn say(words: &[u8]) {
-    io::write_all(1, words);
 }

@@ -5,6 +5,7 @@ use mathlib.Core.List.{List}
 use mathlib.Core.Path.{◌≡◌, refl, sym, ap, ◌∙◌, subst}
 use Prim.Native.Nat.{ℕ, suc, ◌≤◌}
 use native.Mathlib.Omega.{arith}
+use Rattle.std.specs.Prelude.{Option}
 use Rattle.terms.specs.Choice.{both}
 use Rattle.terms.specs.Refusals.{taken}
 use Rattle.terms.proofs.Refusals.{taken_exactly, clear_taken}
@@ -30,7 +31,6 @@ use Rattle.serial.specs.Phases.{answered, awaits}
 use Rattle.serial.specs.Replies.{came, neither, wrong_reply}
 use Rattle.serial.specs.Step.{serial_rows, resumed_at, moved_to, byte_sent, turn_at, turn_of, serial_step}
 use Rattle.serial.specs.declared.Serial.{Serial}
-use Rattle.serial.specs.declared.Wire.{Wire}
 use Rattle.serial.proofs.Kept.{Within, within, not_outside, step_keeps}
 use Rattle.serial.proofs.Places.{Settled, resumed_settled, resumed_here, walks_settled}
 use Rattle.spelling.specs.Fewest.{Sends, silent, sends, EveryRunSent}
@@ -49,11 +49,11 @@ not_answered Image e = refl
 not_answered (Wait a) e = absurd (false≢true e)
 not_answered (Ended x) e = refl
 
-none_wrong : (phase : Phase) (i : ℕ) (w : Wire) → in_bits phase ≡ true → wrong_reply phase i w ≡ false
+none_wrong : (phase : Phase) (i : ℕ) (w : Option ℕ) → in_bits phase ≡ true → wrong_reply phase i w ≡ false
 unfolding wrong_reply awaits both
 none_wrong phase i w e = ap (λ (b : Bool). both (both b (not (pair_bit i))) (neither w)) (not_answered phase e)
 
-module _ (x : Serial) (lent : ℕ → List ℕ) (back : ℕ → Wire) (load : Load) (image : List ℕ) where
+module _ (x : Serial) (lent : ℕ → List ℕ) (back : ℕ → Option ℕ) (load : Load) (image : List ℕ) where
   abbrev at : ℕ → Serial
   at = serials x lent back
 

@@ -3,12 +3,14 @@
 use mathlib.Core.Bool.{Bool, true, false}
 use mathlib.Core.List.{List, [], ◌∷◌, map}
 use mathlib.Core.Logic.{inl}
-use mathlib.Core.Path.{◌≡◌, refl, sym, ap, ◌∙◌, subst}
+use mathlib.Core.Path.{◌≡◌, refl, sym, ap, ◌∙◌}
 use Prim.Native.Nat.{ℕ, zero, suc, ◌+◌, ◌-◌, ◌*◌, ◌≤◌, ◌<◌, min}
 use native.Mathlib.Omega.{arith}
 use lib.Dec.{ltb}
 use lib.ListN.{length}
 use borrow.Author.Tests.{le-leb, lt-leb, lt-ltb, ltb-true, ltb-false}
+use Rattle.std.specs.Prelude.{Some}
+use Rattle.std.proofs.lemmas.Option.{none-some}
 use Rattle.terms.specs.Choice.{when}
 use Rattle.terms.proofs.Refusals.{taken_exactly}
 use Rattle.terms.proofs.Tests.{when_true, when_false, when_elim, either_true, either_false}
@@ -25,19 +27,16 @@ use Rattle.frames.specs.Spells.{laid, widths}
 use Rattle.frames.proofs.Spells.{with_used, two_each, frame_spells}
 use Rattle.packing.specs.Phases.{in_bits, in_pairs}
 use Rattle.packing.specs.Runs.{bits_from}
-use Rattle.packing.specs.Filling.{goes_into, goes_on, joined, tried, more, filled_to, filled, most, paired, sent_at}
+use Rattle.packing.specs.Filling.{Open, goes_into, goes_on, joined, tried, more, filled_to, filled, most, paired, sent_at}
 use Rattle.packing.proofs.Full.{at_most_three, some_spell, filled_byte, full_byte}
 use Rattle.packing.proofs.Phases.{in_bits_lem}
 use Rattle.packing.proofs.Walks.{bit_at, Walks, stays, walks}
 use Rattle.serial.specs.Replies.{came}
 use Rattle.serial.specs.Step.{serial_rows, resumed_at, turn_at, turn_of, serial_step}
-use Rattle.packing.specs.declared.Filling.{Filling}
 use Rattle.packing.specs.declared.Packing.{Packing}
 use Rattle.packing.specs.declared.Packing.TheVariants.{One, Three, Fewest}
 use Rattle.serial.specs.declared.Serial.{Serial}
 use Rattle.serial.specs.declared.Turn.{Turn}
-use Rattle.serial.specs.declared.Wire.{Wire}
-use Rattle.serial.specs.declared.Wire.TheVariants.{Nothing, Byte}
 use Rattle.serial.proofs.Kept.{within, resumed_in}
 use Rattle.spelling.specs.Packed.{up_to, ahead, fitting, held_of, held, EveryByte}
 
@@ -48,12 +47,12 @@ widths_most (b ∷ bits) = omega (arith, at_most_three b, widths_most bits)
 
 module _ (packing : Packing) (load : Load) (image : List ℕ) where
   -- Turns from the front.
-  turned : (n : ℕ) (f : Filling) → filled_to packing load image (suc n) f ≡ filled_to packing load image n (more packing load image f)
+  turned : (n : ℕ) (f : Open) → filled_to packing load image (suc n) f ≡ filled_to packing load image n (more packing load image f)
   unfolding filled_to
   turned zero f = refl
   turned (suc n) f = ap (more packing load image) (turned n f)
 
-  rests : (n : ℕ) (f : Filling) → f.going ≡ false → filled_to packing load image n f ≡ f
+  rests : (n : ℕ) (f : Open) → f.going ≡ false → filled_to packing load image n f ≡ f
   unfolding filled_to more
   rests zero f e = refl
   rests (suc n) f e = ap (more packing load image) (rests n f e) ∙ when_false _ _ e
@@ -62,7 +61,7 @@ module _ (packing : Packing) (load : Load) (image : List ℕ) where
   module _ (phase : Phase) (bits : in_pairs phase ≡ false)
       (goes_within : (i : ℕ) → goes_on packing (record { phase = phase; index = i + 1 }) ≡ true)
       (stops_at : (to : Phase) → goes_on packing (opened to) ≡ false) where
-    abbrev at : Frame → ℕ → Filling
+    abbrev at : Frame → ℕ → Open
     at frame i = record { frame = frame; place = record { phase = phase; index = i }; going = true }
 
     abbrev bit : ℕ → Bool
@@ -89,7 +88,7 @@ module _ (packing : Packing) (load : Load) (image : List ℕ) where
     none_left i frame e = (ap (goes_on packing) (when_false _ _ e) ∙ stops_at (after load phase), refl)
 
     -- The bits of the turns that are left.
-    abbrev Held : ℕ → ℕ → Frame → Filling → Type 0
+    abbrev Held : ℕ → ℕ → Frame → Open → Type 0
     Held n i frame f = (filled_to packing load image n f).frame ≡ laid frame (bits_from load image phase i (min n (places load phase - i)))
 
     by_left : (n i : ℕ) (frame : Frame) → i < places load phase
@@ -101,13 +100,13 @@ module _ (packing : Packing) (load : Load) (image : List ℕ) where
     by_left n i frame h rest true e =
         let more = ltb-true (i + 1) (places load phase) e in
         let count : min (suc n) (places load phase - i) ≡ suc (min n (places load phase - (i + 1))) = omega (arith, more) in
-        ap (λ (f : Filling). (filled_to packing load image n f).frame) (more_left i (with frame (bit i)) more) ∙ rest more
+        ap (λ (f : Open). (filled_to packing load image n f).frame) (more_left i (with frame (bit i)) more) ∙ rest more
         ∙ ap (λ (k : ℕ). laid frame (bits_from load image phase i k)) (sym count)
     by_left n i frame h rest false e =
         let last = ltb-false (i + 1) (places load phase) e in
         let count : min (suc n) (places load phase - i) ≡ 1 = omega (arith, last, h) in
         let none = none_left i (with frame (bit i)) e in
-        ap (λ (f : Filling). f.frame) (rests n _ none.0) ∙ none.1
+        ap (λ (f : Open). f.frame) (rests n _ none.0) ∙ none.1
         ∙ ap (λ (k : ℕ). laid frame (bits_from load image phase i k)) (sym count)
 
     holds : (n i : ℕ) (frame : Frame) → frame.used + 3 * n ≤ 10 → i < places load phase → Held n i frame (at frame i)
@@ -117,8 +116,8 @@ module _ (packing : Packing) (load : Load) (image : List ℕ) where
         ap (λ (m : ℕ). laid frame (bits_from load image phase i m)) (sym count)
     holds (suc n) i frame h k =
         let wide = with_used frame (bit i) (room frame (bit i) n h) in
-        ap (λ (f : Filling). f.frame) (turned n (at frame i))
-        ∙ ap (λ (f : Filling). (filled_to packing load image n f).frame) (one_turn frame i n h)
+        ap (λ (f : Open). f.frame) (turned n (at frame i))
+        ∙ ap (λ (f : Open). (filled_to packing load image n f).frame) (one_turn frame i n h)
         ∙ by_left n i frame k (λ more. holds n (i + 1) (with frame (bit i)) (omega (arith, h, wide, at_most_three (bit i))) more)
         (ltb (i + 1) (places load phase)) refl
 
@@ -191,24 +190,18 @@ module _ (load : Load) (image : List ℕ) (phase : Phase) (i : ℕ) (on : ended 
   by_pairs packing true p = rw (p) (frame_spells true (false ∷ []) (omega arith))
   by_pairs packing false p = rw (p) (run_spells packing p)
 
-byte_in : Wire → ℕ
-byte_in Nothing = 0
-byte_in (Byte b) = b
-
-unfoldable pub is_byte : Wire → Type 0
-is_byte Nothing = ⊥
-is_byte (Byte b) = Unit {0}
-
 -- The byte of a turn, from where what came back has led.
 module _ (s : Serial) (image : List ℕ) (p : Place) (h : p.index < places s.load p.phase) (byte : ℕ) where
   abbrev Spelt : Turn → Type 0
-  Spelt t = t.sent ≡ Byte byte → low_runs byte ≡ map run (held s.packing s.load image p.phase p.index)
+  Spelt t = t.sent ≡ Some byte → low_runs byte ≡ map run (held s.packing s.load image p.phase p.index)
 
   turn_spells : Spelt (turn_at s image p.phase p.index)
-  unfolding turn_at byte_in is_byte
+  unfolding turn_at
   turn_spells =
-      when_elim Spelt (ended p.phase) _ _ (λ e q. absurd (subst is_byte (sym q) tt))
-      (λ e q. ap low_runs (sym (ap byte_in q)) ∙ by_pairs s.load image p.phase p.index e h s.packing (in_pairs p.phase) refl)
+      when_elim Spelt (ended p.phase) _ _ (λ e q. absurd (none-some _ q))
+      (λ e q.
+      let same : byte ≡ byte_of (sent_at s.packing s.load image p.phase p.index).frame.lows = cc in
+      ap low_runs same ∙ by_pairs s.load image p.phase p.index e h s.packing (in_pairs p.phase) refl)
 
 pub every_byte : EveryByte
 unfolding serial_step turn_of

@@ -8,6 +8,7 @@ use Prim.Native.Nat.{ℕ, zero, suc, ◌+◌, ◌/◌, ◌≤◌, ◌<◌}
 use native.Mathlib.Omega.{arith}
 use lib.Dec.{eqb, ltb}
 use borrow.Author.Tests.{ltb-true, ltb-false}
+use Rattle.std.specs.Prelude.{Option}
 use Rattle.terms.specs.Refusals.{taken}
 use Rattle.terms.proofs.Refusals.{Clear, taken_exactly}
 use Rattle.terms.proofs.Tests.{when_true, when_false, when_elim}
@@ -36,7 +37,6 @@ use Rattle.serial.specs.Replies.{came, resumed}
 use Rattle.serial.specs.Step.{serial_start, serial_rows, resumed_at, turn_at, turn_of, serial_step}
 use Rattle.serial.specs.declared.Serial.{Serial}
 use Rattle.serial.specs.declared.Turn.{Turn}
-use Rattle.serial.specs.declared.Wire.{Wire}
 use Rattle.serial.proofs.Kept.{Within, within, resumed_in}
 use Rattle.serial.proofs.Places.{settled_first, after_first, pending_second, first_settled, first_onward, first_next, resumed_settled, resumed_here, resumed_past}
 use Rattle.serial.proofs.Starts.{start_load}
@@ -104,7 +104,7 @@ module _ (load : Load) (image : List ℕ) where
   unfolding next
   next_enters phase i s p odd = subst Enters (sym (when_false _ _ odd)) (pair_enters phase i s p)
 
-module _ (command : ℕ) (image : List ℕ) (x : Serial) (back : ℕ → Wire) (starts : serial_start Fewest command image ≡ taken x)
+module _ (command : ℕ) (image : List ℕ) (x : Serial) (back : ℕ → Option ℕ) (starts : serial_start Fewest command image ≡ taken x)
     (whole : SameBits x (λ (n : ℕ). image) back command image) where
   abbrev at : ℕ → Serial
   at = serials x (λ (n : ℕ). image) back
@@ -214,7 +214,7 @@ module _ (command : ℕ) (image : List ℕ) (x : Serial) (back : ℕ → Wire) (
       absurd (false≢true (sym (ap (λ (q : Place). in_bits q.phase) start) ∙ e))
   begun (suc n) h e = by_ended n h e (begun n (omega (arith, h))) (ended (here n).phase) refl
 
-later : (x : Serial) (lent : ℕ → List ℕ) (back : ℕ → Wire) (n : ℕ) (bytes : List ℕ) (end : ℕ) → Sends x lent back n bytes end → n ≤ end
+later : (x : Serial) (lent : ℕ → List ℕ) (back : ℕ → Option ℕ) (n : ℕ) (bytes : List ℕ) (end : ℕ) → Sends x lent back n bytes end → n ≤ end
 later x lent back n _ _ (silent _) = omega arith
 later x lent back n _ end (sends _ b bytes _ e rest) = let more = later x lent back (suc n) bytes end rest in omega (arith, more)
 

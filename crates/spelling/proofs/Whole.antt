@@ -9,6 +9,8 @@ use native.Mathlib.Omega.{arith}
 use lib.Dec.{eqb, ltb}
 use lib.ListN.{length, replicate, length-map}
 use borrow.Author.Tests.{lt-leb, ltb-true, ltb-false}
+use Rattle.std.specs.Prelude.{Option, None}
+use Rattle.std.proofs.lemmas.Option.{none-some}
 use Rattle.terms.specs.Refusals.{Answer, refused, taken}
 use Rattle.terms.proofs.Refusals.{clear_taken, taken_alike}
 use Rattle.terms.proofs.Tests.{when_true, when_false, when_elim, either_false, less_false}
@@ -30,8 +32,6 @@ use Rattle.frames.specs.LowRuns.{run}
 use Rattle.serial.specs.Replies.{came, wrong_reply, resumed}
 use Rattle.packing.specs.Filling.{sent_at}
 use Rattle.serial.specs.Step.{fresh, serial_start, serial_outside, serial_rows, moved_to, byte_sent, turn_at, turn_of, serial_step}
-use Rattle.serial.specs.declared.Wire.{Wire}
-use Rattle.serial.specs.declared.Wire.TheVariants.{Nothing, Byte}
 use Rattle.packing.specs.declared.Packing.{Packing}
 use Rattle.serial.specs.declared.Serial.{Serial}
 use Rattle.serial.specs.declared.Turn.{Turn}
@@ -41,13 +41,8 @@ use Rattle.sessions.proofs.Spells.{Loads, spelled_sent}
 use Rattle.spelling.specs.Spelling.{Told, runs_on, sent_by, handed, serials, wires, runs_of, told, tolds, spelled_by, SameBits, EverySerial}
 use Rattle.spelling.proofs.Bytes.{bytes_at, bytes_most}
 use Rattle.spelling.proofs.Calls.{byte_carries}
-use Rattle.spelling.proofs.Packed.{is_byte}
 use Rattle.serial.proofs.Places.{resumed_settled, resumed_here, ended_settled, first_settled}
 use Rattle.spelling.proofs.Says.{Says, said, says_append, says_stands, says_same, Stepped, says_steps}
-
-byte_is_sent : (b : ℕ) → Byte b ≡ Nothing → ⊥
-unfolding is_byte
-byte_is_sent b e = subst is_byte e tt
 
 -- An answer, said by its parts.
 by_parts : (s : Serial) (a : Answer Turn) (t : Turn) → a ≡ taken t → a ≡ taken (record { sent = sent_by a; serial = handed s a })
@@ -57,7 +52,7 @@ not_outside : (load : Load) (k : ℕ) (p : Place) → Stands load k p → place_
 unfolding place_outside
 not_outside load k p s = (either_false _ _).1 ((less_false _ _).1 s.had, lt-leb _ _ s.short)
 
-module _ (packing : Packing) (load : Load) (lent : ℕ → List ℕ) (back : ℕ → Wire) where
+module _ (packing : Packing) (load : Load) (lent : ℕ → List ℕ) (back : ℕ → Option ℕ) where
   abbrev x : Serial
   x = fresh packing load
 
@@ -82,7 +77,7 @@ module _ (packing : Packing) (load : Load) (lent : ℕ → List ℕ) (back : ℕ
       pub runs : runs_of x lent back n ≡ map run bits
       pub many : ended place.phase ≡ false → n ≤ bytes_at load (resumes place n).phase (resumes place n).index
       pub most : n ≤ image_pulses load + 1299
-      pub spoke : (m : ℕ) → suc m ≡ n → ended place.phase ≡ false → wires x lent back m ≡ Nothing → ⊥
+      pub spoke : (m : ℕ) → suc m ≡ n → ended place.phase ≡ false → wires x lent back m ≡ None → ⊥
 
     begins : Stands load 0 (opened Calibration)
     begins = opened_stands load long 0 Calibration (omega arith) (omega arith)
@@ -139,7 +134,7 @@ module _ (packing : Packing) (load : Load) (lent : ℕ → List ℕ) (back : ℕ
       module _ (t : Turn) (place : Place) (bits : List Bool) (same_turn : turn ≡ t) (moved : t.serial ≡ moved_to x place)
           (inside : place_outside load place.phase place.index ≡ false) (runs : runs_on t.sent ≡ map run bits)
           (sent : Says load here (replicate (length bits) (told x lent back n)) bits (resumes place (suc n)))
-          (grows : ended place.phase ≡ false → suc (bytes_at load here.phase here.index) ≤ bytes_at load (resumes place (suc n)).phase (resumes place (suc n)).index) (byte : ended place.phase ≡ false → t.sent ≡ Nothing → ⊥) where
+          (grows : ended place.phase ≡ false → suc (bytes_at load here.phase here.index) ≤ bytes_at load (resumes place (suc n)).phase (resumes place (suc n)).index) (byte : ended place.phase ≡ false → t.sent ≡ None → ⊥) where
         wire : wires x lent back n ≡ t.sent
         wire = wire_is ∙ ap (λ (y : Turn). y.sent) same_turn
 
@@ -174,7 +169,7 @@ module _ (packing : Packing) (load : Load) (lent : ℕ → List ℕ) (back : ℕ
       ends_here : ended here.phase ≡ true → At (suc n)
       unfolding turn_at
       ends_here e =
-          at_next (record { sent = Nothing; serial = moved_to x here }) here [] (when_true _ _ e) refl
+          at_next (record { sent = None; serial = moved_to x here }) here [] (when_true _ _ e) refl
           (not_outside load _ here (stands_at n a)) refl
           (subst (Says load here [] []) (sym (resumed_here load here.phase here.index _ (ended_settled here.phase here.index e))) (said here))
           (λ go. absurd (true≢false (sym e ∙ go))) (λ go. absurd (true≢false (sym e ∙ go)))
@@ -186,7 +181,7 @@ module _ (packing : Packing) (load : Load) (lent : ℕ → List ℕ) (back : ℕ
           let c = byte_carries packing load long (told x lent back n) (same n) here.phase here.index (length (tolds x lent back n)) e
           (resumed_settled load a.place.phase a.place.index (came (back n))) (stands_at n a) in
           at_next (byte_sent (moved_to x a.place) f) f.place c.bits (when_false _ _ e) refl
-          (not_outside load c.count f.place c.inside) c.runs c.sent (λ go. c.grows) (λ go. byte_is_sent _)
+          (not_outside load c.count f.place c.inside) c.runs c.sent (λ go. c.grows) (λ go e. none-some _ (sym e))
 
       by_ended : (b : Bool) → ended here.phase ≡ b → At (suc n)
       by_ended true e = ends_here e
@@ -265,7 +260,7 @@ module _ (packing : Packing) (load : Load) (lent : ℕ → List ℕ) (back : ℕ
       place_last : (at calls).place ≡ resumes last calls
       place_last = ap (λ (s : Serial). s.place) stands_last ∙ sym resumes_last
 
-      ended_14 : (lends : List ℕ) (reply : Wire) → serial_step (at calls) lends reply ≡ refused 14
+      ended_14 : (lends : List ℕ) (reply : Option ℕ) → serial_step (at calls) lends reply ≡ refused 14
       unfolding serial_step serial_outside
       ended_14 lends reply =
           ap (λ (s : Serial). serial_step s lends reply) stands_last

@@ -1,7 +1,7 @@
 -- 02, "One" and "Seven": what each byte holds. "Pairs go as $F9"; of a run of bits a byte holds the next one or three, and "the last byte of
 -- each holds what is left", or "as many of the next bits as fit".
 -- Assumes nothing.
-use Rattle.std.specs.Prelude.{Bool, true, false, List, [], ◌∷◌, map, ◌≡◌, ℕ, zero, suc, ◌-◌, min, leb}
+use Rattle.std.specs.Prelude.{Bool, true, false, List, [], ◌∷◌, map, ◌≡◌, ℕ, zero, suc, ◌-◌, min, leb, Option, Some}
 use Rattle.terms.specs.Choice.{when}
 use Rattle.terms.specs.Refusals.{taken}
 use Rattle.load.specs.declared.Load.{Load}
@@ -19,8 +19,6 @@ use Rattle.packing.specs.declared.Packing.{Packing}
 use Rattle.packing.specs.declared.Packing.TheVariants.{One, Three, Fewest}
 use Rattle.serial.specs.declared.Serial.{Serial}
 use Rattle.serial.specs.declared.Turn.{Turn}
-use Rattle.serial.specs.declared.Wire.{Wire}
-use Rattle.serial.specs.declared.Wire.TheVariants.{Byte}
 
 -- So many bits of a phase from number i on, or as many as are left.
 abbrev pub up_to : ℕ → Load → List ℕ → Phase → ℕ → List Bool
@@ -51,5 +49,5 @@ held packing load image phase i = when (in_pairs phase) (true ∷ false ∷ []) 
 -- for a 0. It is filled from where what came back has led.
 abbrev pub EveryByte : Type 0
 EveryByte =
-    (s : Serial) (image : List ℕ) (back : Wire) (t : Turn) (byte : ℕ) → serial_step s image back ≡ taken t → t.sent ≡ Byte byte
+    (s : Serial) (image : List ℕ) (back : Option ℕ) (t : Turn) (byte : ℕ) → serial_step s image back ≡ taken t → t.sent ≡ Some byte
     → low_runs byte ≡ map run (held s.packing s.load image (resumed_at s back).phase (resumed_at s back).index)

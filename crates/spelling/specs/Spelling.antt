@@ -2,6 +2,7 @@
 -- 01's own steps, which is the one that 01 spells.
 -- Assumes nothing.
 use Rattle.std.specs.Prelude.{Bool, false, List, [], ◌∷◌, ◌++◌, map, ◌≡◌, ℕ, zero, suc, ◌+◌, ◌*◌, ◌≤◌, ◌<◌, length, get_or, replicate}
+use Rattle.std.specs.Prelude.{Option, None, Some}
 use Rattle.terms.specs.Refusals.{Answer, refused, taken}
 use Rattle.units.specs.declared.Seen.{Seen}
 use Rattle.units.specs.declared.Seen.TheVariants.{Silence}
@@ -16,8 +17,6 @@ use Rattle.serial.specs.Step.{serial_start, serial_step}
 use Rattle.packing.specs.declared.Packing.{Packing}
 use Rattle.serial.specs.declared.Serial.{Serial}
 use Rattle.serial.specs.declared.Turn.{Turn}
-use Rattle.serial.specs.declared.Wire.{Wire}
-use Rattle.serial.specs.declared.Wire.TheVariants.{Nothing, Byte}
 use Rattle.sessions.specs.Spelled.{Mark, Spelled, spelled}
 
 -- What a pulse of a session is lent, and told.
@@ -35,13 +34,13 @@ pub data Steps : Session → List Told → List Bool → Session → Type 0 wher
       → session_step s t.image t.seen ≡ taken p → Steps p.session ts bits left → Steps s (t ∷ ts) (p.bit ∷ bits) left
 
 -- The low runs of what a call sends.
-abbrev pub runs_on : Wire → List ℕ
-runs_on Nothing = []
-runs_on (Byte b) = low_runs b
+abbrev pub runs_on : Option ℕ → List ℕ
+runs_on None = []
+runs_on (Some b) = low_runs b
 
 -- What a call sends, and the record after it; a refused call sends nothing and leaves the record.
-abbrev pub sent_by : Answer Turn → Wire
-sent_by (refused n) = Nothing
+abbrev pub sent_by : Answer Turn → Option ℕ
+sent_by (refused n) = None
 sent_by (taken t) = t.sent
 
 abbrev pub handed : Serial → Answer Turn → Serial
@@ -49,13 +48,13 @@ handed s (refused n) = s
 handed s (taken t) = t.serial
 
 -- Call n is lent the image `lent n`, and told that `back n` came back.
-module _ (x : Serial) (lent : ℕ → List ℕ) (back : ℕ → Wire) where
+module _ (x : Serial) (lent : ℕ → List ℕ) (back : ℕ → Option ℕ) where
   -- The record before call n, and what call n sends.
   unfoldable pub serials : ℕ → Serial
   serials zero = x
   serials (suc n) = handed (serials n) (serial_step (serials n) (lent n) (back n))
 
-  unfoldable pub wires : ℕ → Wire
+  unfoldable pub wires : ℕ → Option ℕ
   wires n = sent_by (serial_step (serials n) (lent n) (back n))
 
   -- The low runs of the first n calls, one after the other.
@@ -82,8 +81,8 @@ module _ (x : Serial) (lent : ℕ → List ℕ) (back : ℕ → Wire) where
     pub turns : (n : ℕ) → n < calls
         → serial_step (serials n) (lent n) (back n) ≡ taken (record { sent = wires n; serial = serials (suc n) })
     pub going : (n : ℕ) → n < calls → ended (serials n).place.phase ≡ false
-    pub sends : (n : ℕ) → suc n < calls → wires n ≡ Nothing → ⊥
-    pub closed : (lends : List ℕ) (reply : Wire) → serial_step (serials calls) lends reply ≡ refused 14
+    pub sends : (n : ℕ) → suc n < calls → wires n ≡ None → ⊥
+    pub closed : (lends : List ℕ) (reply : Option ℕ) → serial_step (serials calls) lends reply ≡ refused 14
     -- A session of the same command and image, by 01's steps, sends bits that the low runs spell, and is left where this one is.
     pub first : Session
     pub begins : session_start command image ≡ taken first
@@ -102,7 +101,7 @@ module _ (x : Serial) (lent : ℕ → List ℕ) (back : ℕ → Wire) where
 -- but for a wrong reply where it is looked at.
 abbrev pub EverySerial : Type 0
 EverySerial =
-    (packing : Packing) (command : ℕ) (image : List ℕ) (x : Serial) (lent : ℕ → List ℕ) (back : ℕ → Wire)
+    (packing : Packing) (command : ℕ) (image : List ℕ) (x : Serial) (lent : ℕ → List ℕ) (back : ℕ → Option ℕ)
     → serial_start packing command image ≡ taken x
     → ((command ≡ 0 → ⊥) → (n : ℕ) → length (lent n) ≡ length image)
     → ((n : ℕ) → wrong_reply (serials x lent back n).place.phase (serials x lent back n).place.index (back n) ≡ false)

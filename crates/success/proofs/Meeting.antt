@@ -9,7 +9,6 @@ use native.Mathlib.Omega.{arith}
 use lib.ListN.{length}
 use Rattle.terms.specs.Choice.{when, either}
 use Rattle.terms.specs.Refusals.{Answer, refused, taken}
-use Rattle.terms.proofs.Answers.{back}
 use Rattle.terms.proofs.Refusals.{not_both}
 use Rattle.units.specs.Units.{most, loops_in}
 use Rattle.units.proofs.Conversions.{some_length}
@@ -148,7 +147,8 @@ module _ (t h p command : ℕ) (image : List ℕ) (host : Host) (ram eeprom : Li
   answers_so : (o : Outcome) → (run_of t h p command image None l ram eeprom).answer ≡ taken o → Answers t h p command image l ram eeprom o
   answers_so o e =
       let q : taken came_to ≡ taken o = ap (λ (x : Left). x.answer) (sym ran_so) ∙ e in
-      subst (Answers t h p command image l ram eeprom) (ap (back (λ n. came_to) (λ x. x)) q) answers
+      let same : came_to ≡ o = cc in
+      subst (Answers t h p command image l ram eeprom) same answers
 
 -- A run that is taken has both starts taken.
 module _ (t h p command : ℕ) (image : List ℕ) (l : ℕ) (ram eeprom : List ℕ) (o : Outcome) (bytes : AllBytes image) (loop : Loop l) (margin : Margin t p l)

@@ -1,8 +1,0 @@
--- `file`: by a law, since counting that many would take the checker too long.
--- Assumes nothing.
-use Rattle.std.proofs.Common.{ℕ, sym}
-use Rattle.std.proofs.lemmas.List.{length-replicate}
-use Rattle.traced.proofs.file.Goals as goal
-
-pub returns : goal.returns
-returns c = sym (length-replicate {A = ℕ} 2643621 0)
