@@ -7,23 +7,14 @@ use Prim.Native.Nat.{ℕ, ◌≤◌, ◌<◌}
 use native.Mathlib.Omega.{arith}
 use lib.Dec.{ltb}
 use borrow.Author.Tests.{ltb-true, leb-true}
+use Rattle.std.specs.Prelude.{Option, None, Some, is_none, unwrap_or}
 use Rattle.terms.specs.Choice.{when}
 use Rattle.terms.proofs.Tests.{both_true}
 use Rattle.settings.specs.declared.Settings.{Settings}
 use Rattle.success.specs.Success.{Loop, Margin, Asked}
 use Rattle.success.proofs.Succeeding.{demand_3}
 use Rattle.safe.specs.Safe.{largest_loop, loops_of, safe_of}
-use Rattle.safe.specs.declared.Reach.{Reach}
-use Rattle.safe.specs.declared.Reach.TheVariants.{None, UpTo}
 use Rattle.exact.specs.Safe.{SafeForAll}
-
-abbrev is_none : Reach → Bool
-is_none None = true
-is_none (UpTo n) = false
-
-abbrev up_to : Reach → ℕ
-up_to None = 0
-up_to (UpTo n) = n
 
 module _ (s : Settings) where
   abbrev largest : ℕ
@@ -39,15 +30,15 @@ module _ (s : Settings) where
   safe_says e = let two = (both_true _ _).0 e in (leb-true _ _ two.0, leb-true _ _ two.1)
 
   -- None is told where no loop of a real chip is short enough, otherwise the largest.
-  told_none : (b : Bool) → ltb largest 400000 ≡ b → when b None (UpTo largest) ≡ None → largest < 400000
+  told_none : (b : Bool) → ltb largest 400000 ≡ b → when b None (Some largest) ≡ None → largest < 400000
   unfolding when
   told_none true e h = ltb-true _ _ e
   told_none false e h = absurd (false≢true (ap is_none h))
 
-  told_largest : (b : Bool) (n : ℕ) → when b None (UpTo largest) ≡ UpTo n → largest ≡ n
+  told_largest : (b : Bool) (n : ℕ) → when b None (Some largest) ≡ Some n → largest ≡ n
   unfolding when
   told_largest true n h = absurd (true≢false (ap is_none h))
-  told_largest false n h = ap up_to h
+  told_largest false n h = ap (λ (x : Option ℕ). unwrap_or x 0) h
 
   no_loop : loops_of s ≡ None → (l : ℕ) → Loop l → Margin s.t s.p l → ⊥
   unfolding loops_of
@@ -55,7 +46,7 @@ module _ (s : Settings) where
       let short = told_none (ltb largest 400000) refl e in
       omega (arith, short, (margin_is l loop).0 m, loop.0)
 
-  loops : (n : ℕ) → loops_of s ≡ UpTo n → (l : ℕ) → Loop l → Margin s.t s.p l ↔ (l ≤ n)
+  loops : (n : ℕ) → loops_of s ≡ Some n → (l : ℕ) → Loop l → Margin s.t s.p l ↔ (l ≤ n)
   unfolding loops_of
   loops n e l loop =
       let is = told_largest (ltb largest 400000) n e in
