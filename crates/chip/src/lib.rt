@@ -50,6 +50,8 @@ impl Chip {
 
     // The next pulse, `wait` the high before it and `low` its own length, or a refusal: 10 or 11 for a memory that is not of its size,
     // 13 for a record out of its ranges, 14 for one that has ended. A refused step leaves both memories as they are.
+    // Both memories go by themselves, here and in the calls above: each promise speaks of either at exit. The first two rows are those of
+    // `start`, one `if` a row as in every table.
     #[tactic(auto, unfolding(terms::specs::Choice::when, crate::specs::Step::chip_step))]
     pub fn step(
         mut self,

@@ -11,6 +11,8 @@ use place::{Phase, Place};
 use units::Seen;
 
 // The place after the pulse at `place`. What was seen around the pulse before it, `seen`, counts only where this one is a pair's second.
+// Some arms are alike: in each the compiler knows the phase (docs/SPEED.md). `place` and `load` go apart, as in `bits` and `range`: the records
+// above hold each by itself, and a struct of both would be made anew at every pulse.
 #[tactic(auto, using(crate::proofs::Unseen::unseen))]
 pub fn next(place: Place, load: Load, seen: Seen) -> Place
     ensures { result ≡ next load place.phase place.index seen }

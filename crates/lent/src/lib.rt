@@ -19,6 +19,7 @@ pub fn word(bytes: &[u8], at: Bytes) -> u16
 }
 
 // The sum of all bytes, modulo 256.
+// It differs from `total` in its width alone. A trait over both widths would be longer than the two; what both are is one law, `added_all`.
 pub fn sum(bytes: &[u8]) -> u8
     ensures { result ≡ total bytes.now % 256 }
 {

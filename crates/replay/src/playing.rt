@@ -8,6 +8,7 @@ use chip::Chip;
 use units::{Bytes, Loops};
 
 // Pulses until the chip has ended, or the trace.
+// By `while`: a step is as long as the numbers that were read.
 pub(crate) fn play(start: Chip, trace: &[u8], ram: &mut [u8], eeprom: &mut [u8]) -> Chip
     requires { is_faulty (numbers_of trace.now) ≡ false }
     ensures { state result ram.new eeprom.new ≡ played (list_of (numbers_of trace.now)) (state start ram.old eeprom.old) }

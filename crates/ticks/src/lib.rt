@@ -10,6 +10,7 @@ use units::Ticks;
 
 // The ticks of each phase so far, in the order in which they come; 0 for one that was not reached. The 32 zeros after a wrong version are
 // of the command, and the last three are the acknowledgements.
+// Ten fields, as in `counts::Plan`, which says why they are not one generic record.
 #[derive(Clone, Copy)]
 pub struct PhaseTicks {
     pub calibration: Ticks,

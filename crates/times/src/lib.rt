@@ -3,7 +3,6 @@
 #![tactic(auto)]
 
 ghost use Rattle.std.specs.Prelude.{false, ◌≡◌, ◌+◌, ◌*◌, ◌≤◌};
-ghost use Rattle.terms.specs.Choice.{either};
 ghost use Rattle.terms.specs.Refusals.{told};
 ghost use Rattle.settings.specs.Settings.{settings_outside};
 ghost use Rattle.counts.specs.Counts.{sum_of};
@@ -15,6 +14,7 @@ use terms::Refusal;
 
 // The exact times of a plan: each phase of one tracker, one tracker, and all of them, in ns; and the old bench's figures of one tracker and
 // of all, in us.
+// Ten of its fields are by phase, as in `counts::Plan`, which says why they are not one generic record.
 #[derive(Clone, Copy)]
 pub struct Times {
     pub calibration: u64,
@@ -49,21 +49,20 @@ impl Times {
 // The most pulses that a session has. No count of it is larger.
 const MOST: u32 = 264_362;
 
+#[tactic(auto, using(terms::proofs::Refusals::walk), unfolding(crate::specs::Times::plan_outside, terms::specs::Choice::either))]
 fn is_outside(plan: Plan) -> bool
     ensures { result ≡ plan_outside plan }
 {
-    any(
-        exceeds(plan.calibration),
-        exceeds(plan.handshake),
-        exceeds(plan.connection),
-        exceeds(plan.version),
-        exceeds(plan.command),
-        exceeds(plan.size),
-        exceeds(plan.image),
-        exceeds(plan.ram),
-        exceeds(plan.programming),
-        exceeds(plan.verification),
-    )
+    exceeds(plan.calibration)
+        || exceeds(plan.handshake)
+        || exceeds(plan.connection)
+        || exceeds(plan.version)
+        || exceeds(plan.command)
+        || exceeds(plan.size)
+        || exceeds(plan.image)
+        || exceeds(plan.ram)
+        || exceeds(plan.programming)
+        || exceeds(plan.verification)
 }
 
 #[tactic(auto, unfolding(crate::specs::Times::counts_outside, terms::specs::Choice::either))]
@@ -71,53 +70,6 @@ fn exceeds(counts: Counts) -> bool
     ensures { result ≡ counts_outside counts }
 {
     MOST < counts.ones || MOST < counts.zeros || MOST < counts.spacers || MOST < counts.silent
-}
-
-fn any(
-    a: bool,
-    b: bool,
-    c: bool,
-    d: bool,
-    e: bool,
-    f: bool,
-    g: bool,
-    h: bool,
-    i: bool,
-    j: bool,
-) -> bool
-    ensures { result ≡ either a (either b (either c (either d (either e (either f (either g (either h (either i (either j false))))))))) }
-{
-    if a {
-        return true;
-    }
-    if b {
-        return true;
-    }
-    if c {
-        return true;
-    }
-    if d {
-        return true;
-    }
-    if e {
-        return true;
-    }
-    if f {
-        return true;
-    }
-    if g {
-        return true;
-    }
-    if h {
-        return true;
-    }
-    if i {
-        return true;
-    }
-    if j {
-        return true;
-    }
-    false
 }
 
 // Settings that are within their bounds.
@@ -143,18 +95,16 @@ impl Bench {
         let ram = self.lasting(plan.ram);
         let programming = self.lasting(plan.programming);
         let verification = self.lasting(plan.verification);
-        let one = sum(
-            calibration,
-            handshake,
-            connection,
-            version,
-            command,
-            size,
-            image,
-            ram,
-            programming,
-            verification,
-        );
+        let one = calibration
+            + handshake
+            + connection
+            + version
+            + command
+            + size
+            + image
+            + ram
+            + programming
+            + verification;
         let old_one = self.old_sum(plan);
         Times {
             calibration,
@@ -192,18 +142,16 @@ impl Bench {
         requires { plan_outside plan ≡ false }
         ensures { (result ≡ sum_of (old_lasting self.settings) plan) × (result ≤ 30000000000000) }
     {
-        sum(
-            self.old_lasting(plan.calibration),
-            self.old_lasting(plan.handshake),
-            self.old_lasting(plan.connection),
-            self.old_lasting(plan.version),
-            self.old_lasting(plan.command),
-            self.old_lasting(plan.size),
-            self.old_lasting(plan.image),
-            self.old_lasting(plan.ram),
-            self.old_lasting(plan.programming),
-            self.old_lasting(plan.verification),
-        )
+        self.old_lasting(plan.calibration)
+            + self.old_lasting(plan.handshake)
+            + self.old_lasting(plan.connection)
+            + self.old_lasting(plan.version)
+            + self.old_lasting(plan.command)
+            + self.old_lasting(plan.size)
+            + self.old_lasting(plan.image)
+            + self.old_lasting(plan.ram)
+            + self.old_lasting(plan.programming)
+            + self.old_lasting(plan.verification)
     }
 
     #[tactic(auto, using(crate::proofs::Bounds::old_ones_most, crate::proofs::Bounds::old_zeros_most, crate::proofs::Bounds::old_spacers_most, crate::proofs::Bounds::old_silent_most, crate::proofs::Bounds::old_most), unfolding(crate::specs::Times::old_lasting))]
@@ -221,14 +169,6 @@ impl Bench {
 
 // The spacer after a silent pair is at least so long, in ns.
 const LONGER: u32 = 10_000_000;
-
-fn sum(a: u64, b: u64, c: u64, d: u64, e: u64, f: u64, g: u64, h: u64, i: u64, j: u64) -> u64
-    requires { (a ≤ 3000000000000) × (b ≤ 3000000000000) × (c ≤ 3000000000000) × (d ≤ 3000000000000) × (e ≤ 3000000000000)
-        × (f ≤ 3000000000000) × (g ≤ 3000000000000) × (h ≤ 3000000000000) × (i ≤ 3000000000000) × (j ≤ 3000000000000) }
-    ensures { (result ≡ a + b + c + d + e + f + g + h + i + j) × (result ≤ 30000000000000) }
-{
-    a + b + c + d + e + f + g + h + i + j
-}
 
 fn for_all(one: u64, trackers: u16) -> u64
     requires { one ≤ 30000000000000 }

@@ -21,6 +21,7 @@ pub fn judge(trace: &[u8]) -> Result<(), Refusal>
 }
 
 // Judges what follows a file's mark.
+// By `while`: a step is as long as the number that was read.
 fn pairs(trace: &[u8]) -> Result<(), Refusal>
     requires { 1 ≤ length trace.now }
     ensures { told result ≡ verdict false (numbers_of trace.now) }

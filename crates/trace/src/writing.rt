@@ -33,6 +33,7 @@ pub(crate) fn fits(numbers: &[u64], room: usize) -> bool
 }
 
 // How many groups a number has.
+// By `while`, as in `put`: it divides, and counts no index.
 fn size(number: u64) -> usize
     requires { number < bound }
     ensures { result ≡ length (written groups number) }
