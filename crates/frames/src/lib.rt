@@ -18,13 +18,15 @@ impl Frame {
     pub const EMPTY: Frame = Frame { lows: 0, used: 0 };
 
     // Whether the bit times left hold the bit.
+    #[tactic(auto, unfolding(crate::specs::Frames::fits))]
     pub fn fits(self, bit: bool) -> bool
         ensures { result ≡ fits self bit }
     {
-        self.used as u32 + width(bit) as u32 <= BIT_TIMES
+        u32::from(self.used) + u32::from(width(bit)) <= BIT_TIMES
     }
 
     // The frame with one bit more; where it doesn't fit, the frame as it is.
+    #[tactic(auto, using(terms::proofs::Refusals::walk, crate::proofs::Spells::fits_room), unfolding(crate::specs::Frames::with))]
     pub fn with(self, bit: bool) -> Frame
         ensures { result ≡ with self bit }
     {
@@ -53,17 +55,11 @@ const ZERO_WIDTH: u8 = 3;
 fn width(bit: bool) -> u8
     ensures { result ≡ width bit }
 {
-    if bit {
-        return ONE_WIDTH;
-    }
-    ZERO_WIDTH
+    if bit { ONE_WIDTH } else { ZERO_WIDTH }
 }
 
 fn lows_of(bit: bool) -> u16
     ensures { result ≡ lows_of bit }
 {
-    if bit {
-        return 1;
-    }
-    3
+    if bit { 1 } else { 3 }
 }

@@ -21,43 +21,36 @@ const FLAGS: Bytes = Bytes(8);
 // What the bytes of a good image sum to, modulo 256.
 const SUM: u8 = 20;
 
+#[tactic(auto, using(terms::proofs::Refusals::walk), unfolding(crate::specs::Image::bad_length))]
 pub(crate) fn is_bad_length(length: Bytes) -> bool
     ensures { result ≡ bad_length length.0 }
 {
-    if length.0 < Load::SMALLEST_LENGTH.0 {
-        return true;
-    }
-    if Load::LARGEST_LENGTH.0 < length.0 {
-        return true;
-    }
-    length.0 % 4 != 0
+    length < Load::SMALLEST_LENGTH || Load::LARGEST_LENGTH < length || length.0 % 4 != 0
 }
 
+#[tactic(auto, unfolding(crate::specs::Image::other_length))]
 pub(crate) fn names_other_length(image: &[u8]) -> bool
     ensures { result ≡ other_length image.now }
 {
-    lent::word(image, LENGTH_AT) as usize != image.len()
+    usize::from(lent::word(image, LENGTH_AT)) != image.len()
 }
 
+#[tactic(auto, unfolding(crate::specs::Image::other_start))]
 pub(crate) fn starts_elsewhere(image: &[u8]) -> bool
     ensures { result ≡ other_start image.now }
 {
     lent::word(image, START_AT) != START
 }
 
+#[tactic(auto, using(terms::proofs::Refusals::walk), unfolding(crate::specs::Image::bad_stack))]
 pub(crate) fn has_bad_stack(image: &[u8]) -> bool
     ensures { result ≡ bad_stack image.now }
 {
-    let d = lent::word(image, D_AT) as usize;
-    if d % 4 != 0 {
-        return true;
-    }
-    if d < image.len() + FLAGS.0 {
-        return true;
-    }
-    Bytes::MEMORY.0 < d
+    let d = usize::from(lent::word(image, D_AT));
+    d % 4 != 0 || d < image.len() + FLAGS.0 || Bytes::MEMORY.0 < d
 }
 
+#[tactic(auto, unfolding(crate::specs::Image::other_sum))]
 pub(crate) fn sums_otherwise(image: &[u8]) -> bool
     ensures { result ≡ other_sum image.now }
 {

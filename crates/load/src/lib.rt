@@ -24,8 +24,9 @@ impl Load {
 
     pub const LARGEST_LENGTH: Bytes = Bytes(32_760);
 
-    // The load, or the first refusal that applies: 4 for the command, 5 to 9 for the image. Command 0 has no image, and what is
-    // lent as one is not looked at.
+    // The load, or the first refusal that applies: of the command, or of the image. Command 0 has no image, and what is lent as one is not
+    // looked at.
+    #[tactic(auto, using(terms::proofs::Refusals::walk, crate::proofs::Loads::load_bare, crate::proofs::Loads::load_whole), unfolding(crate::specs::Load::accepted))]
     pub fn new(command: u32, image: &[u8]) -> Result<Load, Refusal>
         ensures { told result ≡ accepted command image.now }
     {
@@ -60,25 +61,21 @@ impl Load {
     }
 
     // Whether the command or the length is one that no start hands out.
+    #[tactic(auto, using(terms::proofs::Refusals::walk), unfolding(crate::specs::Load::load_outside, terms::specs::Choice::when))]
     pub fn is_outside(self) -> bool
         ensures { result ≡ load_outside self }
     {
-        if Self::LARGEST_COMMAND < self.command {
-            return true;
-        }
         if self.command == 0 {
-            return self.length.0 != 0;
+            return self.length != Bytes(0);
         }
-        image::is_bad_length(self.length)
+        Self::LARGEST_COMMAND < self.command || image::is_bad_length(self.length)
     }
 
     // Whether a step is lent an image of another length than the start was. Command 0 looks at none.
+    #[tactic(auto, using(terms::proofs::Refusals::walk), unfolding(crate::specs::Load::other_image, terms::specs::Choice::when))]
     pub fn is_other_image(self, image: &[u8]) -> bool
         ensures { result ≡ other_image self image.now }
     {
-        if self.command != 0 {
-            return image.len() != self.length.0;
-        }
-        false
+        self.command != 0 && image.len() != self.length.0
     }
 }

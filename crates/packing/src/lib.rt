@@ -25,17 +25,18 @@ pub struct Filling {
 }
 
 // The byte that is filled from a place on. It is left where the next one begins, after a pair's at the pair's second pulse.
+#[tactic(auto, using(terms::proofs::Refusals::walk), unfolding(crate::specs::Filling::sent_at))]
 pub fn sent_at(packing: Packing, load: Load, image: &[u8], place: Place) -> Filling
     ensures { result ≡ sent_at packing load image.now place.phase place.index }
 {
-    let phase = place.phase;
-    if in_pairs(phase) {
+    if in_pairs(place.phase) {
         return paired(load, place);
     }
     filled(packing, load, image, place)
 }
 
 // A pair is the bits 1, 0. Its second pulse is left to the next call.
+#[tactic(auto, unfolding(crate::specs::Filling::paired))]
 fn paired(load: Load, place: Place) -> Filling
     ensures { result ≡ paired load place.phase place.index }
 {
@@ -93,14 +94,11 @@ fn filled(packing: Packing, load: Load, image: &[u8], place: Place) -> Filling
     }
 }
 
+#[tactic(auto, using(terms::proofs::Refusals::walk), unfolding(crate::specs::Filling::goes_on))]
 fn goes_on(packing: Packing, place: Place) -> bool
     ensures { result ≡ goes_on packing place }
 {
-    if 0 < place.index {
-        return true;
-    }
-    let phase = place.phase;
-    goes_into(packing, phase)
+    0 < place.index || goes_into(packing, place.phase)
 }
 
 fn goes_into(packing: Packing, phase: Phase) -> bool
