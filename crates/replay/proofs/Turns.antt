@@ -9,6 +9,7 @@ use borrow.Author.Tests.{leb-true, leb-false}
 use lib.Dec.{leb}
 use lib.ListN.{length, drop, drop_of_length-le}
 use Rattle.std.specs.Prelude.{Option, None, Some, Result, Ok, Err, is_some}
+use Rattle.terms.specs.Refusals.{Answer}
 use Rattle.terms.proofs.Tests.{when_true, when_false}
 use Rattle.units.specs.Units.{loops_of}
 use Rattle.phases.specs.Endings.{told_end, end_at}
@@ -16,7 +17,6 @@ use Rattle.phases.specs.Phases.{ended}
 use Rattle.phases.specs.declared.Ending.{Ending}
 use Rattle.phases.specs.declared.Phase.{Phase}
 use Rattle.phases.proofs.Endings.{listens, has_ended}
-use Rattle.terms.specs.Refusals.{Answer}
 use Rattle.chip.specs.Step.{Reply, left, chip_step}
 use Rattle.chip.specs.declared.Chip.{Chip}
 use Rattle.numbers.specs.Numbers.{groups, bound, number_at}
