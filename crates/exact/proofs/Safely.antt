@@ -1,13 +1,13 @@
 -- A longer loop leaves less margin.
 -- Assumes nothing.
-use mathlib.Core.Bool.{Bool, true, false, true≢false, false≢true}
+use mathlib.Core.Bool.{Bool, true, false}
 use mathlib.Core.Logic.{◌↔◌}
-use mathlib.Core.Path.{◌≡◌, refl, ap}
+use mathlib.Core.Path.{◌≡◌, refl}
 use Prim.Native.Nat.{ℕ, ◌≤◌, ◌<◌}
 use native.Mathlib.Omega.{arith}
 use lib.Dec.{ltb}
 use borrow.Author.Tests.{ltb-true, leb-true}
-use Rattle.std.specs.Prelude.{Option, None, Some, is_none, unwrap_or}
+use Rattle.std.specs.Prelude.{None, Some}
 use Rattle.terms.specs.Choice.{when}
 use Rattle.terms.proofs.Tests.{both_true}
 use Rattle.settings.specs.declared.Settings.{Settings}
@@ -33,12 +33,12 @@ module _ (s : Settings) where
   told_none : (b : Bool) → ltb largest 400000 ≡ b → when b None (Some largest) ≡ None → largest < 400000
   unfolding when
   told_none true e h = ltb-true _ _ e
-  told_none false e h = absurd (false≢true (ap is_none h))
+  told_none false e h = absurd (cc)
 
   told_largest : (b : Bool) (n : ℕ) → when b None (Some largest) ≡ Some n → largest ≡ n
   unfolding when
-  told_largest true n h = absurd (true≢false (ap is_none h))
-  told_largest false n h = ap (λ (x : Option ℕ). unwrap_or x 0) h
+  told_largest true n h = cc
+  told_largest false n h = cc
 
   no_loop : loops_of s ≡ None → (l : ℕ) → Loop l → Margin s.t s.p l → ⊥
   unfolding loops_of

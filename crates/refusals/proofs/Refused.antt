@@ -6,7 +6,6 @@ use mathlib.Core.List.{List, [], ◌∷◌, ◌++◌}
 use mathlib.Core.Logic.{◌⊎◌, inl, inr}
 use mathlib.Core.Path.{◌≡◌, refl, sym, ap, ◌∙◌, subst}
 use Prim.Native.Nat.{ℕ}
-use native.Mathlib.Omega.{arith}
 use Rattle.terms.specs.Refusals.{Row, Answer, refused, taken, first, Given}
 use Rattle.terms.proofs.Refusals.{Clear, refused_exactly, taken_exactly, clear_taken, clear_both, agrees, not_both}
 use Rattle.settings.specs.Settings.{settings_rows}
@@ -94,8 +93,7 @@ module _ (t h p command : ℕ) (image : List ℕ) (fault : Fault) (l : ℕ) (ram
       let clear = clear_both (start_rows ram eeprom fault) host_rows_lem ((taken_exactly tt u (host_rows_lem ++ start_rows ram eeprom fault)).0 e).0 in
       let past = past_host clear.0 (taken _) (clear_taken _ (start_rows ram eeprom fault) clear.1) in
       let told = sym (ap (λ (x : runs.Left). x.answer) past) ∙ q in
-      let z : ◌≡◌ {A = ℕ} 0 1 = cc in
-      absurd (omega arith)
+      absurd (cc)
 
 module _ (ns buffer : List ℕ) (n : ℕ) where
   write_left : Given n (write_rows ns buffer) → writes ns buffer ≡ traces.left (refused n) buffer

@@ -9,6 +9,7 @@ use borrow.Author.Tests.{leb-true, leb-false}
 use lib.Dec.{leb}
 use lib.ListN.{length, drop, drop_of_length-le}
 use Rattle.std.specs.Prelude.{Option, None, Some, Result, Ok, Err, is_some}
+use Rattle.terms.specs.Refusals.{Answer}
 use Rattle.terms.proofs.Tests.{when_true, when_false}
 use Rattle.units.specs.Units.{loops_of}
 use Rattle.phases.specs.Endings.{told_end, end_at}
@@ -16,7 +17,6 @@ use Rattle.phases.specs.Phases.{ended}
 use Rattle.phases.specs.declared.Ending.{Ending}
 use Rattle.phases.specs.declared.Phase.{Phase}
 use Rattle.phases.proofs.Endings.{listens, has_ended}
-use Rattle.terms.specs.Refusals.{Answer}
 use Rattle.chip.specs.Step.{Reply, left, chip_step}
 use Rattle.chip.specs.declared.Chip.{Chip}
 use Rattle.numbers.specs.Numbers.{groups, bound, number_at}
@@ -94,7 +94,7 @@ module _ (trace : List ℕ) (at : ℕ) (h : at < length trace) (ok : is_faulty (
 
     module _ (l : Number) (e' : number_at groups bound trace w.next.0 ≡ Ok l) where
       before_end : w.next.0 < length trace
-      before_end = inside_by trace w.next.0 (leb (length trace) w.next.0) refl (λ q. let z : ◌≡◌ {A = ℕ} 0 1 = cc in omega arith)
+      before_end = inside_by trace w.next.0 (leb (length trace) w.next.0) refl (λ q. cc)
 
       read' : Read groups bound trace w.next.0 before_end l
       read' = value_read groups bound trace w.next.0 before_end (number_at groups bound trace w.next.0) refl l e'
@@ -123,13 +123,13 @@ module _ (trace : List ℕ) (at : ℕ) (h : at < length trace) (ok : is_faulty (
     with_low_lem p (Ok l) q k =
         let same : ◌≡◌ {A = Pulse} (record { wait = record { 0 = loops_of w.value }; low = record { 0 = loops_of l.value }; next = l.next }) p = cc in
         subst Turn same (turned l q)
-    with_low_lem p (Err n) q k = let z : ◌≡◌ {A = ℕ} 0 1 = cc in absurd (omega arith)
+    with_low_lem p (Err n) q k = absurd (cc)
 
     -- A wait without its low.
     alone_at : (t : Bool) → leb (length trace) w.next.0 ≡ t → (y : Result Number NoNumber) → number_at groups bound trace w.next.0 ≡ y
         → with_low w y ≡ None → rest trace w.next.0 ≡ good []
     alone_at true b y q k = ap (numbers_in groups bound) (drop_of_length-le trace (leb-true (length trace) w.next.0 b)) ∙ in_none groups bound
-    alone_at false b (Ok l) q k = let z : ◌≡◌ {A = ℕ} 0 1 = cc in absurd (omega arith)
+    alone_at false b (Ok l) q k = absurd (cc)
     alone_at false b (Err End) q k =
         absurd (not_end groups bound trace w.next.0 (leb-false (length trace) w.next.0 b) (number_at groups bound trace w.next.0) refl q)
     alone_at false b (Err Bad) q k =
@@ -138,7 +138,7 @@ module _ (trace : List ℕ) (at : ℕ) (h : at < length trace) (ok : is_faulty (
 
   with_wait_lem : (p : Pulse) (x : Result Number NoNumber) → number_at groups bound trace at ≡ x → with_wait trace x ≡ Some p → Turn p
   with_wait_lem p (Ok w) e k = with_low_lem w e p (number_at groups bound trace w.next.0) refl k
-  with_wait_lem p (Err n) e k = let z : ◌≡◌ {A = ℕ} 0 1 = cc in absurd (omega arith)
+  with_wait_lem p (Err n) e k = absurd (cc)
 
   pub turn : (p : Pulse) → pulse_at trace at ≡ Some p → Turn p
   turn p k = with_wait_lem p (number_at groups bound trace at) refl k

@@ -7,13 +7,11 @@ use crate::pulses::pulse_at;
 use chip::Chip;
 use units::{Bytes, Loops};
 
-// Pulses until the chip has ended, or the trace.
-// By `while`: a step is as long as the numbers that were read.
-pub(crate) fn play(start: Chip, trace: &[u8], ram: &mut [u8], eeprom: &mut [u8]) -> Chip
+// Pulses until the chip has ended, or the trace. No `for`: how long a pulse is only its bytes say.
+pub(crate) fn play(mut chip: Chip, trace: &[u8], ram: &mut [u8], eeprom: &mut [u8]) -> Chip
     requires { is_faulty (numbers_of trace.now) ≡ false }
-    ensures { state result ram.new eeprom.new ≡ played (list_of (numbers_of trace.now)) (state start ram.old eeprom.old) }
+    ensures { state result ram.new eeprom.new ≡ played (list_of (numbers_of trace.now)) (state chip ram.old eeprom.old) }
 {
-    let mut chip = start;
     let mut at = 1;
     while at < trace.len() {
         if chip.end().is_some() {

@@ -1,12 +1,9 @@
 -- `playing::play`: what is left of the replay, from where it stands, is the whole replay.
 -- Assumes nothing.
-use mathlib.Core.Path.{refl, sym, ◌∙◌}
+use mathlib.Core.Path.{sym, ◌∙◌}
 use native.Mathlib.Omega.{arith}
 use Rattle.replay.proofs.Turns.{told_over, playing_ended, playing_done, playing_over, playing_on, playing_more}
 use Rattle.replay.proofs.playing.play.Goals as goal
-
-pub loop-at-init : goal.loop-at-init
-loop-at-init c = record { turns = record { sound = c.requires; same = refl }; ram = refl; eeprom = refl }
 
 pub returns-then-is_some : goal.returns-then-is_some
 returns-then-is_some c =
