@@ -6,20 +6,20 @@ mod chips;
 mod hosts;
 mod words;
 
-use std::io::{self, Read, Write};
+use std::io::Write;
 use words::said;
 
 // The bytes of the longest table that is taken.
 const LONGEST: usize = 32_768;
 
-fn main(rt: HostRuntime) -> io::Result<()> {
-    let mut table = Vec::new(rt.alloc());
-    // An input that cannot be read ends there.
-    let _ = rt.reader().take(LONGEST as u64 + 1).read_to_end(&mut table);
-    if LONGEST < table.len() {
+fn main(rt: HostRuntime) -> std::io::Result<()> {
+    // One byte more, so that a longer one is seen to be too long; an array, since memory for a vector could run out.
+    let mut table = [0u8; 32_769];
+    let n = io::read_full(0, &mut table);
+    if LONGEST < n {
         return println!(rt; "the table has more than 32768 bytes");
     }
-    for line in table.split(|byte| *byte == b'\n') {
+    for line in table[..n].split(|byte| *byte == b'\n') {
         // An empty line ends it.
         if line.is_empty() {
             break;
@@ -32,21 +32,21 @@ fn main(rt: HostRuntime) -> io::Result<()> {
 }
 
 // A line is printed up to the space before its bar. One that has a bar is a case, any other a heading.
-fn print_line(rt: &impl Print, line: &[u8]) -> io::Result<()> {
+fn print_line(rt: &impl Print, line: &[u8]) -> std::io::Result<()> {
     match line.iter().skip(1).position(|byte| *byte == b'|') {
         Some(bar) => {
-            io::writer(rt).write_all(line.get(..bar).unwrap_or(line))?;
+            std::io::writer(rt).write_all(line.get(..bar).unwrap_or(line))?;
             print_step(rt, line)
         }
         None => {
-            io::writer(rt).write_all(line)?;
+            std::io::writer(rt).write_all(line)?;
             println!(rt; "")
         }
     }
 }
 
 // Steps a host, a serial session or a chip.
-fn print_step(rt: &impl Print, line: &[u8]) -> io::Result<()> {
+fn print_step(rt: &impl Print, line: &[u8]) -> std::io::Result<()> {
     if said(line, words::HOST) {
         hosts::print_host(rt, line)
     } else if said(line, words::SERIAL) {

@@ -8,13 +8,13 @@ use place::{Phase, Place};
 use serial::Serial;
 use std::alloc::AllocError;
 use std::env::Env;
-use std::io::{self, Read, Write};
+use std::io::Write;
 
 // No session has more calls: 1,299, and eight for each byte of the image.
 const CALLS: u32 = 263_379;
 
 // One byte more than the longest image has, so that a longer input is seen to be too long.
-const MOST: u64 = 32_761;
+const MOST: usize = 32_761;
 
 // The parts of a session, by the byte that a call sends next.
 #[derive(Clone, Copy, PartialEq, Eq, PartialOrd, Ord)]
@@ -27,18 +27,21 @@ enum Part {
     Ended,
 }
 
-fn main(rt: HostRuntime) -> io::Result<()> {
+fn main(rt: HostRuntime) -> std::io::Result<()> {
     let (Some(command), Some(bits @ (0 | 1 | 3 | 5))) = (argument(&rt, 1), argument(&rt, 2)) else {
-        return eprintln!(rt; "docked: two numbers are wanted, COMMAND and BITS (0, 1, 3 or 5), and an image on standard input");
+        return eprintln!(rt;
+            "docked: two numbers are wanted, COMMAND and BITS (0, 1, 3 or 5), and an image on standard input"
+        );
     };
-    let mut image = Vec::new(rt.alloc());
-    // An input that cannot be read ends there.
-    let _ = rt.reader().take(MOST).read_to_end(&mut image);
+    // An array: memory for a vector could run out.
+    let mut image = [0u8; MOST];
+    let n = io::read_full(0, &mut image);
+    let image = &image[..n];
     match bits {
-        1 => write_bytes(&rt, Packing::One, command, image.as_slice()),
-        3 => write_bytes(&rt, Packing::Three, command, image.as_slice()),
-        5 => write_bytes(&rt, Packing::Fewest, command, image.as_slice()),
-        _ => print_lines(&rt, command, image.as_slice()),
+        1 => write_bytes(&rt, Packing::One, command, image),
+        3 => write_bytes(&rt, Packing::Three, command, image),
+        5 => write_bytes(&rt, Packing::Fewest, command, image),
+        _ => print_lines(&rt, command, image),
     }
 }
 
@@ -50,19 +53,24 @@ fn argument(rt: &HostRuntime, i: usize) -> Option<u32> {
     figures::read(&text[..n])
 }
 
-fn write_bytes(rt: &(impl Print + AllocGlobal), packing: Packing, command: u32, image: &[u8]) -> io::Result<()> {
+fn write_bytes(
+    rt: &(impl Print + AllocGlobal),
+    packing: Packing,
+    command: u32,
+    image: &[u8],
+) -> std::io::Result<()> {
     match Serial::start(packing, command, image) {
         Ok(serial) => {
             let mut bytes = Vec::new(rt.alloc());
             send(serial, Part::Ended, image, &mut bytes)?;
-            io::writer(rt).write_all(bytes.as_slice())
+            std::io::writer(rt).write_all(bytes.as_slice())
         }
         Err(refusal) => println!(rt; "{refusal}"),
     }
 }
 
 // Every packing takes the same loads.
-fn print_lines(rt: &(impl Print + AllocGlobal), command: u32, image: &[u8]) -> io::Result<()> {
+fn print_lines(rt: &(impl Print + AllocGlobal), command: u32, image: &[u8]) -> std::io::Result<()> {
     for (name, packing) in [
         ("one", Packing::One),
         ("three", Packing::Three),
@@ -83,7 +91,12 @@ const NS_PER_S: u64 = 1_000_000_000;
 
 // How many bytes the handshake and the load take, and all that the session comes to, with the time of its bytes on the wire, cut to the
 // nanosecond.
-fn print_line(rt: &(impl Print + AllocGlobal), name: &str, start: Serial, image: &[u8]) -> io::Result<()> {
+fn print_line(
+    rt: &(impl Print + AllocGlobal),
+    name: &str,
+    start: Serial,
+    image: &[u8],
+) -> std::io::Result<()> {
     let mut bytes = Vec::new(rt.alloc());
     let mut serial = start;
     let mut calls = 0u32;
@@ -101,8 +114,14 @@ fn print_line(rt: &(impl Print + AllocGlobal), name: &str, start: Serial, image:
         *end = bytes.len();
     }
     let [calibrated, connecting, connected, loaded, all] = ends;
-    print!(rt; "packing {name} handshake {}", connecting.wrapping_sub(calibrated))?;
-    print!(rt; " load {} bytes {all} calls {calls}", loaded.wrapping_sub(connected))?;
+    print!(rt;
+        "packing {name} handshake {}",
+        connecting.wrapping_sub(calibrated)
+    )?;
+    print!(rt;
+        " load {} bytes {all} calls {calls}",
+        loaded.wrapping_sub(connected)
+    )?;
     if let Some(ending) = serial.end() {
         print!(rt; " host {ending}")?;
     }
@@ -111,7 +130,12 @@ fn print_line(rt: &(impl Print + AllocGlobal), name: &str, start: Serial, image:
 }
 
 // Calls until the next byte is one of a part: keeps the bytes that are sent, and answers the session then, and how many calls that took.
-fn send(start: Serial, part: Part, image: &[u8], bytes: &mut Vec<u8>) -> Result<(Serial, u32), AllocError> {
+fn send(
+    start: Serial,
+    part: Part,
+    image: &[u8],
+    bytes: &mut Vec<u8>,
+) -> Result<(Serial, u32), AllocError> {
     let mut serial = start;
     for calls in 0..CALLS {
         if part <= part_at(serial.place) {

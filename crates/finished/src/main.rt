@@ -3,27 +3,23 @@
 // counted: bench/finish does.
 #![tactic(auto)]
 
-use std::io::{self, Read};
 use units::Bytes;
 
-fn main(rt: HostRuntime) -> io::Result<()> {
+fn main(rt: HostRuntime) -> std::io::Result<()> {
     // A byte of RAM that was not stored is 1 until it is zeroed.
-    let mut ram = [1u8; Bytes::MEMORY.0];
-    let mut input = Vec::new(rt.alloc());
-    // An input that cannot be read ends there.
-    let _ = rt.reader().take(1 + Bytes::MEMORY.0 as u64).read_to_end(&mut input);
-    let Some((first, stored)) = input.split_first() else {
+    let mut input = [1u8; 32_769];
+    let n = io::read_full(0, &mut input);
+    if n == 0 {
         return println!(rt; "nothing on standard input");
-    };
-    for (byte, read) in ram.iter_mut().zip(stored) {
-        *byte = *read;
     }
-    let words = if *first == b'-' {
+    let is_left = input[0] == b'-';
+    let ram = &mut input[1..];
+    let words = if is_left {
         "not finished"
-    } else if ram::finish(&mut ram, Bytes(stored.len())) {
+    } else if ram::finish(ram, Bytes(n - 1)) {
         "good"
     } else {
         "bad"
     };
-    println!(rt; "{} {words}", lent::total(&ram))
+    println!(rt; "{} {words}", lent::total(ram))
 }

@@ -7,13 +7,12 @@ use eeprom::Fault;
 use joined::Report;
 use place::Ending;
 use std::env::Env;
-use std::io::{self, Read};
 use units::Bytes;
 
 // One byte more than the longest image has, so that a longer input is seen to be too long.
-const MOST: u64 = 32_761;
+const MOST: usize = 32_761;
 
-fn main(rt: HostRuntime) -> io::Result<()> {
+fn main(rt: HostRuntime) -> std::io::Result<()> {
     let (Some(t), Some(h), Some(p), Some(l), Some(command), Some(phases @ 0..=1)) = (
         argument(&rt, 1),
         argument(&rt, 2),
@@ -22,11 +21,14 @@ fn main(rt: HostRuntime) -> io::Result<()> {
         argument(&rt, 5),
         argument(&rt, 6),
     ) else {
-        return eprintln!(rt; "plan: six numbers are wanted, T H P LOOP COMMAND PHASES, with PHASES 0 or 1, and an image on standard input");
+        return eprintln!(rt;
+            "plan: six numbers are wanted, T H P LOOP COMMAND PHASES, with PHASES 0 or 1, and an image on standard input"
+        );
     };
-    let mut image = Vec::new(rt.alloc());
-    // An input that cannot be read ends there.
-    let _ = rt.reader().take(MOST).read_to_end(&mut image);
+    // An array: memory for a vector could run out.
+    let mut image = [0u8; MOST];
+    let n = io::read_full(0, &mut image);
+    let image = &image[..n];
     let mut ram = [0u8; Bytes::MEMORY.0];
     let mut eeprom = [0u8; Bytes::MEMORY.0];
     match joined::run(
@@ -34,7 +36,7 @@ fn main(rt: HostRuntime) -> io::Result<()> {
         h,
         p,
         command,
-        image.as_slice(),
+        image,
         Fault::None,
         l,
         &mut ram,
@@ -54,7 +56,7 @@ fn argument(rt: &HostRuntime, i: usize) -> Option<u32> {
     figures::read(&text[..n])
 }
 
-fn print_plan(rt: &impl Print, report: Report) -> io::Result<()> {
+fn print_plan(rt: &impl Print, report: Report) -> std::io::Result<()> {
     println!(rt; "pulses {}", report.pulses)?;
     println!(rt; "ones {}", report.ones)?;
     println!(rt; "zeros {}", report.zeros)?;
@@ -73,13 +75,13 @@ const PS_PER_NS: u64 = 1_000;
 const NS_PER_S: u64 = 1_000_000_000;
 
 // A time in ps as seconds, to the nanosecond: every low and every spacer is a whole number of them.
-fn print_seconds(rt: &impl Print, time: u64) -> io::Result<()> {
+fn print_seconds(rt: &impl Print, time: u64) -> std::io::Result<()> {
     let ns = time / PS_PER_NS;
     println!(rt; "seconds {}.{:09}", ns / NS_PER_S, ns % NS_PER_S)
 }
 
 // A line for each phase, and one for what they add up to. These do not tell how the load ended.
-fn print_phases(rt: &(impl Print + Eprint), report: Report) -> io::Result<()> {
+fn print_phases(rt: &(impl Print + Eprint), report: Report) -> std::io::Result<()> {
     let phases = report.phases;
     let mut sum = 0u64;
     for (name, ticks) in [
@@ -100,6 +102,8 @@ fn print_phases(rt: &(impl Print + Eprint), report: Report) -> io::Result<()> {
     println!(rt; "ticks {sum}")?;
     match report.host {
         Ending::Done => Ok(()),
-        ending => eprintln!(rt; "plan: warning: the host ended {ending}, so that the load did not succeed; without --phases the plan says more"),
+        ending => eprintln!(rt;
+            "plan: warning: the host ended {ending}, so that the load did not succeed; without --phases the plan says more"
+        ),
     }
 }

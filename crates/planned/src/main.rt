@@ -6,7 +6,6 @@ ghost use Rattle.std.specs.Prelude.{IsSome};
 
 use eeprom::Fault;
 use joined::Report;
-use std::io::{self, Read};
 use units::Bytes;
 
 // The bench: t and h in ns, the tick p and the chip's loop in ps.
@@ -21,15 +20,16 @@ const L: u32 = 400_000;
 const COMMAND: u32 = 1;
 
 // One byte more than the longest image has, so that a longer input is seen to be too long.
-const MOST: u64 = 32_761;
+const MOST: usize = 32_761;
 
-fn main(rt: HostRuntime) -> io::Result<()> {
-    let mut image = Vec::new(rt.alloc());
-    // An input that cannot be read ends there.
-    let _ = rt.reader().take(MOST).read_to_end(&mut image);
+fn main(rt: HostRuntime) -> std::io::Result<()> {
+    // An array: memory for a vector could run out.
+    let mut image = [0u8; MOST];
+    let n = io::read_full(0, &mut image);
+    let image = &image[..n];
     let mut ram = [0u8; Bytes::MEMORY.0];
     let mut eeprom = [0u8; Bytes::MEMORY.0];
-    plan(&rt, image.as_slice(), &mut ram, &mut eeprom)
+    plan(&rt, image, &mut ram, &mut eeprom)
 }
 
 fn plan(
@@ -37,7 +37,7 @@ fn plan(
     image: &[u8],
     ram: &mut [u8; Bytes::MEMORY.0],
     eeprom: &mut [u8; Bytes::MEMORY.0],
-) -> io::Result<()> {
+) -> std::io::Result<()> {
     match joined::run(T, H, P, COMMAND, image, Fault::None, L, ram, eeprom) {
         Ok(report) => print(rt, report),
         Err(refusal) => println!(rt; "{refusal}"),
@@ -45,7 +45,7 @@ fn plan(
 }
 
 // The chip has ended: it is proved that a run of this program that isn't refused ends it.
-fn print(rt: &impl Print, report: Report) -> io::Result<()>
+fn print(rt: &impl Print, report: Report) -> std::io::Result<()>
     requires { IsSome report.chip }
 {
     println!(rt; "pulses {}", report.pulses)?;

@@ -5,8 +5,8 @@
 
 use eeprom::Fault;
 use replay::Report;
+use std::alloc::AllocError;
 use std::env::Env;
-use std::io::{self, Read};
 use units::Bytes;
 
 // The bytes of the longest trace that is taken.
@@ -15,13 +15,12 @@ const LONGEST: usize = 4_194_304;
 // One byte more than an EEPROM has, so that a longer one is seen to be too long.
 const MOST: u32 = 32_769;
 
-fn main(rt: HostRuntime) -> io::Result<()> {
+fn main(rt: HostRuntime) -> std::io::Result<()> {
     let mut text = [0u8; 20];
     let n = rt.arg(1, &mut text).unwrap_or(0);
     if n == 0 {
         let mut zeros = [0u8; Bytes::MEMORY.0];
-        let mut trace = Vec::new(rt.alloc());
-        read(&rt, 0, &mut trace);
+        let trace = read(&rt, 0)?;
         return play(&rt, trace.as_slice(), &mut zeros);
     }
     let Some(size @ 0..=MOST) = figures::read(&text[..n]) else {
@@ -29,8 +28,7 @@ fn main(rt: HostRuntime) -> io::Result<()> {
             "replayed: a trace is wanted on standard input, and before it an EEPROM of as many bytes as the argument says, at most 32769"
         );
     };
-    let mut input = Vec::new(rt.alloc());
-    read(&rt, size, &mut input);
+    let mut input = read(&rt, size)?;
     let at = input.len().min(size as usize);
     let (eeprom, trace) = input.split_at_mut(at);
     play(&rt, trace, eeprom)
@@ -38,12 +36,14 @@ fn main(rt: HostRuntime) -> io::Result<()> {
 
 // Standard input, up to so many bytes and a trace of one byte more than the longest has, so that a longer one is seen to be too long. An
 // input that cannot be read ends there.
-fn read(rt: &HostRuntime, before: u32, input: &mut Vec<u8>) {
-    let most = u64::from(before) + LONGEST as u64 + 1;
-    let _ = rt.reader().take(most).read_to_end(input);
+fn read(rt: &impl AllocGlobal, before: u32) -> Result<Vec<u8>, AllocError> {
+    let mut bytes = vec![in rt.alloc(); 0u8; before as usize + LONGEST + 1]?;
+    let n = io::read_full(0, &mut bytes);
+    bytes.truncate(n);
+    Ok(bytes)
 }
 
-fn play(rt: &(impl Print + Eprint), trace: &[u8], eeprom: &mut [u8]) -> io::Result<()> {
+fn play(rt: &(impl Print + Eprint), trace: &[u8], eeprom: &mut [u8]) -> std::io::Result<()> {
     if LONGEST < trace.len() {
         return eprintln!(rt; "replayed: the trace is over 4194304 bytes");
     }
@@ -55,7 +55,7 @@ fn play(rt: &(impl Print + Eprint), trace: &[u8], eeprom: &mut [u8]) -> io::Resu
 }
 
 // Where the chip ended, and how many loops the nearest 1 lay from the threshold, and the nearest 0.
-fn print(rt: &impl Print, report: Report) -> io::Result<()> {
+fn print(rt: &impl Print, report: Report) -> std::io::Result<()> {
     match report.chip {
         Some(ending) => println!(rt; "{ending}")?,
         None => println!(rt; "listening")?,

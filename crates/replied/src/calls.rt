@@ -123,10 +123,7 @@ fn print_refusals(rt: &impl Print) -> io::Result<()> {
         command: 1,
         length: Bytes(15),
     };
-    let load = Load {
-        command: 1,
-        ..LOAD
-    };
+    let load = Load { command: 1, ..LOAD };
     for (name, load, place, back) in [
         ("13 before 14", short, ended, 0xfd),
         ("14", load, ended, 0xfd),

@@ -9,16 +9,16 @@ use host::Host;
 use receiver::Receiver;
 use std::alloc::{AllocError, Global};
 use std::env::Env;
-use std::io::{self, Read, Write};
+use std::io::Write;
 use units::{Bytes, Loops, Seen, Ticks};
 
 // No session has more pulses: 32,760 bytes, and every wait to its last pair.
 const PULSES: u32 = 264_362;
 
 // One byte more than the longest image has, so that a longer input is seen to be too long.
-const MOST: u64 = 32_761;
+const MOST: usize = 32_761;
 
-fn main(rt: HostRuntime) -> io::Result<()> {
+fn main(rt: HostRuntime) -> std::io::Result<()> {
     let (Some(t), Some(h), Some(p), Some(l), Some(command)) = (
         argument(&rt, 1),
         argument(&rt, 2),
@@ -26,14 +26,17 @@ fn main(rt: HostRuntime) -> io::Result<()> {
         argument(&rt, 4),
         argument(&rt, 5),
     ) else {
-        return eprintln!(rt; "traced: five numbers are wanted, T H P LOOP COMMAND, and an image on standard input");
+        return eprintln!(rt;
+            "traced: five numbers are wanted, T H P LOOP COMMAND, and an image on standard input"
+        );
     };
-    let mut image = Vec::new(rt.alloc());
-    // An input that cannot be read ends there.
-    let _ = rt.reader().take(MOST).read_to_end(&mut image);
-    match Host::start(t, h, p, command, image.as_slice()) {
+    // An array: memory for a vector could run out.
+    let mut image = [0u8; MOST];
+    let n = io::read_full(0, &mut image);
+    let image = &image[..n];
+    match Host::start(t, h, p, command, image) {
         Ok(host) => {
-            let numbers = measure(rt.alloc(), host, image.as_slice(), Clock { p, l })?;
+            let numbers = measure(rt.alloc(), host, image, Clock { p, l })?;
             write(&rt, numbers.as_slice())
         }
         Err(refusal) => println!(rt; "{refusal}"),
@@ -83,7 +86,11 @@ fn measure(alloc: Global, start: Host, image: &[u8], clock: Clock) -> Result<Vec
             continue;
         };
         // The first wait measures 0.
-        let wait = if n == 0 { Loops(0) } else { clock.loops(rise, sent.fall) };
+        let wait = if n == 0 {
+            Loops(0)
+        } else {
+            clock.loops(rise, sent.fall)
+        };
         let low = clock.loops(sent.fall, sent.rise);
         numbers.push(u64::from(wait.0))?;
         numbers.push(u64::from(low.0))?;
@@ -99,13 +106,13 @@ fn measure(alloc: Global, start: Host, image: &[u8], clock: Clock) -> Result<Vec
 }
 
 // Room for the mark, and five groups for each number.
-fn write(rt: &(impl Print + AllocGlobal), numbers: &[u64]) -> io::Result<()> {
+fn write(rt: &(impl Print + AllocGlobal), numbers: &[u64]) -> std::io::Result<()> {
     let room = numbers.len().saturating_mul(5).saturating_add(1);
     let mut file = vec![in rt.alloc(); 0u8; room]?;
     match trace::write(numbers, &mut file) {
         Ok(length) => {
             file.truncate(length.0);
-            io::writer(rt).write_all(file.as_slice())
+            std::io::writer(rt).write_all(file.as_slice())
         }
         Err(refusal) => println!(rt; "{refusal}"),
     }

@@ -25,9 +25,18 @@ pub(crate) fn run(rt: &impl Print, case: Case<'_>) -> io::Result<()> {
     lay(&mut ram, d);
     let mut eeprom = sample::eeprom();
     print!(rt; ":")?;
-    feed(rt, case.number(case::SIZE, 0), &image, &mut ram, &mut eeprom)?;
+    feed(
+        rt,
+        case.number(case::SIZE, 0),
+        &image,
+        &mut ram,
+        &mut eeprom,
+    )?;
     let (total, by_place) = (lent::total(&ram), by_place(&ram));
-    println!(rt; " ram {total} by place {by_place} eeprom {}", lent::total(&eeprom))
+    println!(rt;
+        " ram {total} by place {by_place} eeprom {}",
+        lent::total(&eeprom)
+    )
 }
 
 // D is the word at 10.

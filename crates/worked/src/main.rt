@@ -11,26 +11,26 @@ mod stepped;
 mod whole;
 
 use case::Case;
-use std::io::{self, Read, Write};
+use std::io::Write;
 
 // The bytes of the longest table that is taken.
 const LONGEST: usize = 32_768;
 
-fn main(rt: HostRuntime) -> io::Result<()> {
-    let mut table = Vec::new(rt.alloc());
-    // An input that cannot be read ends there.
-    let _ = rt.reader().take(LONGEST as u64 + 1).read_to_end(&mut table);
-    if LONGEST < table.len() {
+fn main(rt: HostRuntime) -> std::io::Result<()> {
+    // One byte more, so that a longer one is seen to be too long; an array, since memory for a vector could run out.
+    let mut table = [0u8; 32_769];
+    let n = io::read_full(0, &mut table);
+    if LONGEST < n {
         return println!(rt; "the table has more than 32768 bytes");
     }
-    for line in table.split(|byte| *byte == b'\n') {
+    for line in table[..n].split(|byte| *byte == b'\n') {
         match line {
             // An empty line ends it.
             [] => break,
             [b'#', _, ..] => {}
             [b' ', _, case @ ..] => run(&rt, Case { line: case })?,
             heading => {
-                io::writer(&rt).write_all(heading)?;
+                std::io::writer(&rt).write_all(heading)?;
                 println!(rt; "")?;
             }
         }
@@ -40,8 +40,8 @@ fn main(rt: HostRuntime) -> io::Result<()> {
 
 // A case with a threshold is a low that is read, and one with a size is fed to a chip. One with a pulse, or with a byte that is sent as
 // another, is stepped.
-fn run(rt: &impl Print, case: Case<'_>) -> io::Result<()> {
-    io::writer(rt).write_all(case.line)?;
+fn run(rt: &impl Print, case: Case<'_>) -> std::io::Result<()> {
+    std::io::writer(rt).write_all(case.line)?;
     if case.says(case::THRESHOLD) {
         print::read(rt, case)
     } else if case.says(case::SIZE) {

@@ -44,7 +44,10 @@ pub(crate) fn run(rt: &impl Print, case: Case<'_>) -> io::Result<()> {
 
 // With the ticks of each phase, where these are asked for.
 fn print(rt: &impl Print, report: Report, phases: bool) -> io::Result<()> {
-    print!(rt; ": pulses {} ones {} zeros {}", report.pulses, report.ones, report.zeros)?;
+    print!(rt;
+        ": pulses {} ones {} zeros {}",
+        report.pulses, report.ones, report.zeros
+    )?;
     print!(rt; " ticks {} host {}", report.ticks.0, report.host)?;
     print::chip(rt, report.chip)?;
     print::margins(rt, report.nearest)?;
