@@ -5,4 +5,4 @@ use Rattle.planned.proofs.Endings.{run_ends}
 use Rattle.planned.proofs.plan.Goals as goal
 
 pub print-requires : goal.print-requires
-print-requires c = run_ends _ _ _ _ _ _ (λ i. omega (arith, c.type_inv.image i)) c.in-Ok.ensures
+print-requires g c = run_ends _ _ _ _ _ _ (λ i. omega (arith, c.type_inv.image i)) c.in-Ok.ensures
