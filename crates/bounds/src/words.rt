@@ -69,7 +69,8 @@ pub(crate) const WITH: &str = "with ";
 // The first number of a case, whatever is before it.
 pub(crate) const FIRST: &str = "";
 
-// In place of a number that a case does not say. None is so large.
+// In place of a number that a case does not say. None is so large. `cases::number` always answers a number, since most words have one to
+// fall back on.
 const UNSAID: u64 = u64::MAX;
 
 pub(crate) fn said(line: &[u8], word: &str) -> bool {

@@ -52,7 +52,8 @@ pub(crate) const D: &str = "d ";
 
 pub(crate) const PHASES: &str = "phases ";
 
-// In place of a number that a case does not say. None is so large.
+// In place of a number that a case does not say. None is so large. `cases::number` always answers a number, since most words have one to
+// fall back on.
 const UNSAID: u64 = u64::MAX;
 
 // A case by its line.
