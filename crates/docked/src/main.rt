@@ -168,7 +168,9 @@ fn part_at(place: Place) -> Part {
 // What the chip answers to the pair at whose second pulse the record stands; elsewhere nothing comes back.
 fn reply(place: Place) -> Option<u8> {
     match place.phase {
-        Phase::Connection => Some(byte(sequence::draw(sequence::FIRST_CONNECTION_DRAW + place.index / 2))),
+        Phase::Connection => Some(byte(sequence::draw(
+            sequence::FIRST_CONNECTION_DRAW + place.index / 2,
+        ))),
         Phase::Version(_) => Some(byte(place.index < 2)),
         // The chip aligns on the first pair and answers the next.
         Phase::Wait(_) if 2 <= place.index => Some(byte(false)),

@@ -84,7 +84,9 @@ fn one(progress: Progress, image: &[u8]) -> Progress {
 // What a good chip replies to the pulse before the one at a place.
 fn reply(place: Place) -> Seen {
     match place.phase {
-        Phase::Connection => seen(sequence::draw(sequence::FIRST_CONNECTION_DRAW + place.index / 2)),
+        Phase::Connection => seen(sequence::draw(
+            sequence::FIRST_CONNECTION_DRAW + place.index / 2,
+        )),
         Phase::Version(_) => seen(place.index < 2),
         // The chip aligns on the first pair and answers the next.
         Phase::Wait(_) if 2 <= place.index => Seen::Zero,

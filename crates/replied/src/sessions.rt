@@ -160,7 +160,9 @@ fn print_end(rt: &impl Print, end: Progress) -> io::Result<()> {
 // What comes back for the byte before a place; a byte that is neither $FE nor $FF where no reply is looked at.
 fn reply(place: Place, chip: Chip) -> Option<u8> {
     match place.phase {
-        Phase::Connection if chip.connects => Some(byte(sequence::draw(sequence::FIRST_CONNECTION_DRAW + place.index / 2))),
+        Phase::Connection if chip.connects => Some(byte(sequence::draw(
+            sequence::FIRST_CONNECTION_DRAW + place.index / 2,
+        ))),
         Phase::Connection => None,
         Phase::Version(_) => Some(byte(chip.version >> (place.index / 2 % 8) & 1 == 1)),
         Phase::Wait(wait) => chip.acknowledges(wait, place.index),
