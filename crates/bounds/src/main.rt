@@ -19,7 +19,10 @@ fn main(rt: HostRuntime) -> std::io::Result<()> {
     if LONGEST < n {
         return println!(rt; "the table has more than 32768 bytes");
     }
-    for line in table[..n].split(|byte| *byte == b'\n') {
+    let table = &table[..n];
+    // No table has more lines than bytes.
+    for number in 0..LONGEST as u32 {
+        let line = cases::line(table, number);
         // An empty line ends it.
         if line.is_empty() {
             break;

@@ -1,8 +1,8 @@
 // Cases as lines of text: a line names what its case changes, each name with its number behind it.
 #![tactic(auto)]
 
-ghost use Rattle.std.specs.Prelude.{◌≡◌, ◌≤◌};
-ghost use Rattle.cases.specs.Cases.{line_end, next_line, line_start, line_bytes, line_place, behind, starts_with_digit, grown, value_from, number};
+ghost use Rattle.std.specs.Prelude.{◌≡◌, ◌≤◌, length};
+ghost use Rattle.cases.specs.Cases.{until_newline, line_end, next_line, line_start, line_bytes, line_place, behind, starts_with_digit, grown, value_from, number};
 
 // Line n of a text, counted from 0, as a part of it. Past the last line it is empty.
 #[tactic(auto, using(crate::proofs::Ends::end_behind, crate::proofs::Ends::end_within, crate::proofs::Ends::start_within))]
@@ -35,14 +35,23 @@ fn next_line(text: &[u8], from: usize) -> usize
 }
 
 // Where the line ends that a place stands in: at the next newline, or with the text. A place past the text's end is its own line's end.
+#[tactic(auto, using(crate::proofs::Ends::end_past), unfolding(crate::specs::Cases::line_end))]
 fn line_end(text: &[u8], from: usize) -> usize
     ensures { result ≡ line_end text.now from }
 {
-    from + text
-        .iter()
-        .skip(from)
-        .take_while(|byte| **byte != b'\n')
-        .count()
+    if text.len() <= from {
+        return from;
+    }
+    from + until_newline(&text[from..])
+}
+
+// How many bytes stand before a text's first newline. Counted on the part of a text that follows a place: the library's `skip` would walk
+// the bytes before it at each line.
+fn until_newline(text: &[u8]) -> usize
+    ensures value { result ≡ until_newline text.now }
+    ensures within { result ≤ length text.now }
+{
+    text.iter().take_while(|byte| **byte != b'\n').count()
 }
 
 // The number right behind the words, where they stand for the first time at a line's start or behind a space with a digit behind them;

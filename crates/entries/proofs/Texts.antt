@@ -14,16 +14,14 @@ use denote.Ref.{Bor}
 use Rattle.std.proofs.Common.{Iter}
 use Rattle.std.proofs.iter.Yields.{fronts}
 use Rattle.std.proofs.lemmas.Iterator.{YieldsList-from_slice}
-use Rattle.std.proofs.lemmas.Iterator.Adapters.{YieldsList-from_skip}
 use Rattle.std.proofs.lemmas.Iterator.Consumers.{YieldsList-at, count_from_yields_List}
 use Rattle.std.proofs.lemmas.Iterator.Search.{YieldsList-from_take_while}
 use Rattle.std.proofs.lemmas.List.Folds.{length-prefix_len}
-use Rattle.std.specs.declared.iter.Skip.{Skip}
 use Rattle.std.specs.declared.iter.TakeWhile.{TakeWhile}
 use Rattle.std.specs.Fn.{CalledAt}
 use Rattle.std.specs.Slice.Iter.{iter_rest}
 use Rattle.std.specs.Iterator.{Drains}
-use Rattle.std.specs.Iterator.Adapters.{skip_source, skip_count, skip_steps, take_while_source, take_while_callee, take_while_done, take_while_steps}
+use Rattle.std.specs.Iterator.Adapters.{take_while_source, take_while_callee, take_while_done, take_while_steps}
 use Rattle.std.specs.List.{prefix_len, list_all}
 use Rattle.terms.specs.Choice.{when, both}
 use Rattle.terms.proofs.Tests.{when_true, when_false, when_elim}
@@ -60,19 +58,17 @@ unfolding is_name
 names_tested [] = refl
 names_tested (byte ∷ name) = named_more (may_be_named byte) _ _ (names_tested name)
 
--- What `count` says of the bytes from a place on that pass a test.
-pub front_counted : {F : Type 0} {g : Mut F (Bor (Bor ℕ) × Unit {0}) Bool} {f : F} (test : ℕ → Bool) (text : List ℕ) (from : ℕ)
-    (i : Iter ℕ) (k : Skip (Iter ℕ)) (s : TakeWhile (Skip (Iter ℕ)) F) (r : ℕ)
-    → (xs : List (Bor ℕ)) × Drains (take_while_steps (skip_steps fronts) g) s xs × (r ≡ length xs)
-    → iter_rest i ≡ text → skip_source k ≡ i → skip_count k ≡ from
-    → take_while_source s ≡ k → take_while_callee s ≡ f → take_while_done s ≡ false
+-- What `count` says of the bytes that a text starts with and that pass a test.
+pub front_counted : {F : Type 0} {g : Mut F (Bor (Bor ℕ) × Unit {0}) Bool} {f : F} (test : ℕ → Bool) (text : List ℕ)
+    (i : Iter ℕ) (s : TakeWhile (Iter ℕ) F) (r : ℕ)
+    → (xs : List (Bor ℕ)) × Drains (take_while_steps fronts g) s xs × (r ≡ length xs)
+    → iter_rest i ≡ text → take_while_source s ≡ i → take_while_callee s ≡ f → take_while_done s ≡ false
     → ((x : Bor ℕ) (b : Bool) (q : F) → CalledAt g f x b q → (q ≡ f) × (b ≡ test x.now))
-    → r ≡ prefix_len test (drop from text)
-front_counted {g = g} test text from i k s r ran rest source count taken callee done calls =
+    → r ≡ prefix_len test text
+front_counted {g = g} test text i s r ran rest taken callee done calls =
     count_from_yields_List s r ran
-    (YieldsList-from_take_while g test
-    (YieldsList-at taken (YieldsList-from_skip from (YieldsList-at source (YieldsList-from_slice text rest)) count)) callee done calls)
-    ∙ length-prefix_len test (drop from text)
+    (YieldsList-from_take_while g test (YieldsList-at taken (YieldsList-from_slice text rest)) callee done calls)
+    ∙ length-prefix_len test text
 
 -- Where the content ends, seen from a place.
 unfoldable pub content_end : List ℕ → ℕ → ℕ
@@ -111,14 +107,14 @@ content_within (byte ∷ line) =
     let rest = content_within line in
     when_elim (λ n. n ≤ length (byte ∷ line)) (ends_content byte (length line)) 0 (content_length line + 1) (λ e. omega arith) (λ e. omega (arith, rest))
 
-blanks_within : (text : List ℕ) → blanks text ≤ length text
+pub blanks_within : (text : List ℕ) → blanks text ≤ length text
 unfolding blanks
 blanks_within [] = omega arith
 blanks_within (byte ∷ text) =
     let rest = blanks_within text in
     when_elim (λ n. n ≤ length (byte ∷ text)) (is_blank byte) (blanks text + 1) 0 (λ e. omega (arith, rest)) (λ e. omega arith)
 
-until_within : (text : List ℕ) → until_blank text ≤ length text
+pub until_within : (text : List ℕ) → until_blank text ≤ length text
 unfolding until_blank
 until_within [] = omega arith
 until_within (byte ∷ text) =
@@ -126,6 +122,14 @@ until_within (byte ∷ text) =
     when_elim (λ n. n ≤ length (byte ∷ text)) (is_blank byte) 0 (until_blank text + 1) (λ e. omega arith) (λ e. omega (arith, rest))
 
 module _ (text : List ℕ) (from : ℕ) where
+  pub skipped_past : length text ≤ from → from ≡ skipped text from
+  unfolding skipped blanks
+  skipped_past h = rw (drop_of_length-le text h) omega arith
+
+  pub end_past : length text ≤ from → from ≡ word_end text from
+  unfolding word_end until_blank
+  end_past h = rw (drop_of_length-le text h) omega arith
+
   pub end_behind : from ≤ word_end text from
   unfolding word_end
   end_behind = omega arith

@@ -2,9 +2,9 @@
 // does not count.
 #![tactic(auto)]
 
-ghost use Rattle.std.specs.Prelude.{◌≡◌};
+ghost use Rattle.std.specs.Prelude.{◌≡◌, ◌≤◌, length};
 ghost use Rattle.figures.specs.Figures.{figure_of};
-ghost use Rattle.entries.specs.Entries.{ends_content, content_length, content_of, is_blank, skipped, word_end, word_start, word_bytes, word_place, no_word, may_be_named, is_name, setting_of, entry_of};
+ghost use Rattle.entries.specs.Entries.{ends_content, content_length, content_of, is_blank, blanks, until_blank, skipped, word_end, word_start, word_bytes, word_place, no_word, may_be_named, is_name, setting_of, entry_of};
 
 // What is wrong with a line.
 #[derive(Clone, Copy)]
@@ -108,25 +108,42 @@ fn word_start(text: &[u8], n: u32) -> usize
 }
 
 // The first place from one on that is no blank, or the end.
+#[tactic(auto, using(crate::proofs::Texts::skipped_past), unfolding(crate::specs::Entries::skipped))]
 fn skip(text: &[u8], from: usize) -> usize
     ensures { result ≡ skipped text.now from }
 {
-    from + text
-        .iter()
-        .skip(from)
-        .take_while(|byte| is_blank(**byte))
-        .count()
+    if text.len() <= from {
+        return from;
+    }
+    from + blanks(&text[from..])
 }
 
 // The first place from one on that is a blank, or the end.
+#[tactic(auto, using(crate::proofs::Texts::end_past), unfolding(crate::specs::Entries::word_end))]
 fn word_end(text: &[u8], from: usize) -> usize
     ensures { result ≡ word_end text.now from }
 {
-    from + text
-        .iter()
-        .skip(from)
-        .take_while(|byte| !is_blank(**byte))
-        .count()
+    if text.len() <= from {
+        return from;
+    }
+    from + until_blank(&text[from..])
+}
+
+// How many blanks a text starts with. Counted on the part of a line that follows a place: the library's `skip` would walk the bytes before it
+// at each word.
+fn blanks(text: &[u8]) -> usize
+    ensures value { result ≡ blanks text.now }
+    ensures within { result ≤ length text.now }
+{
+    text.iter().take_while(|byte| is_blank(**byte)).count()
+}
+
+// How many bytes a text starts with that are none.
+fn until_blank(text: &[u8]) -> usize
+    ensures value { result ≡ until_blank text.now }
+    ensures within { result ≤ length text.now }
+{
+    text.iter().take_while(|byte| !is_blank(**byte)).count()
 }
 
 #[tactic(auto, unfolding(crate::specs::Entries::is_blank, terms::specs::Choice::either))]

@@ -23,8 +23,10 @@ fn main(rt: HostRuntime) -> std::io::Result<()> {
     if LONGEST < n {
         return println!(rt; "the table has more than 32768 bytes");
     }
-    for line in table[..n].split(|byte| *byte == b'\n') {
-        match line {
+    let table = &table[..n];
+    // No table has more lines than bytes.
+    for number in 0..LONGEST as u32 {
+        match cases::line(table, number) {
             // An empty line ends it.
             [] => break,
             [b'#', _, ..] => {}
