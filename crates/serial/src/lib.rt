@@ -33,7 +33,7 @@ pub struct Turn {
 
 impl Serial {
     // The session before its first byte, or the first of the load's refusals that applies.
-    #[tactic(auto, using(terms::proofs::Refusals::walk), unfolding(crate::specs::Step::serial_start))]
+    #[tactic(auto, using(crate::proofs::Starts::start_refused, crate::proofs::Starts::start_taken))]
     pub fn start(packing: Packing, command: u32, image: &[u8]) -> Result<Serial, Refusal>
         ensures { told result ≡ serial_start packing command image.now }
     {
