@@ -12,12 +12,14 @@ use words::said;
 // The bytes of the longest table that is taken.
 const LONGEST: usize = 32_768;
 
-fn main(rt: HostRuntime) -> std::io::Result<()> {
+fn main(rt: HostRuntime) {
     // One byte more, so that a longer one is seen to be too long; an array, since memory for a vector could run out.
     let mut table = [0u8; 32_769];
     let n = io::read_full(0, &mut table);
+    // Output that cannot be written is passed over.
     if LONGEST < n {
-        return println!(rt; "the table has more than 32768 bytes");
+        let _ = println!(rt; "the table has more than 32768 bytes");
+        return;
     }
     let table = &table[..n];
     // No table has more lines than bytes.
@@ -28,10 +30,9 @@ fn main(rt: HostRuntime) -> std::io::Result<()> {
             break;
         }
         if !line.starts_with(b"#") {
-            print_line(&rt, line)?;
+            let _ = print_line(&rt, line);
         }
     }
-    Ok(())
 }
 
 // A line is printed up to the space before its bar. One that has a bar is a case, any other a heading.

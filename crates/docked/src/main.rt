@@ -28,21 +28,23 @@ enum Part {
 }
 
 fn main(rt: HostRuntime) -> std::io::Result<()> {
-    let (Some(command), Some(bits @ (0 | 1 | 3 | 5))) = (argument(&rt, 1), argument(&rt, 2)) else {
-        return eprintln!(rt;
-            "docked: two numbers are wanted, COMMAND and BITS (0, 1, 3 or 5), and an image on standard input"
-        );
+    let (Some(command), Some(bits)) = (argument(&rt, 1), argument(&rt, 2)) else {
+        usage(&rt);
+        return Ok(());
     };
     // An array: memory for a vector could run out.
     let mut image = [0u8; MOST];
     let n = io::read_full(0, &mut image);
     let image = &image[..n];
+    // Memory that runs out is an error; output that cannot be written is passed over.
     match bits {
-        1 => write_bytes(&rt, Packing::One, command, image),
-        3 => write_bytes(&rt, Packing::Three, command, image),
-        5 => write_bytes(&rt, Packing::Fewest, command, image),
-        _ => print_lines(&rt, command, image),
+        0 => print_lines(&rt, command, image),
+        1 => write_bytes(&rt, Packing::One, command, image)?,
+        3 => write_bytes(&rt, Packing::Three, command, image)?,
+        5 => write_bytes(&rt, Packing::Fewest, command, image)?,
+        _ => usage(&rt),
     }
+    Ok(())
 }
 
 // An argument by its number. One that is missing, or too long for a figure, is none. It stands in each program: no promise could say what the
@@ -53,35 +55,47 @@ fn argument(rt: &HostRuntime, i: usize) -> Option<u32> {
     figures::read(&text[..n])
 }
 
+fn usage(rt: &impl Eprint) {
+    let _ = eprintln!(rt;
+        "docked: two numbers are wanted, COMMAND and BITS (0, 1, 3 or 5), and an image on standard input"
+    );
+}
+
 fn write_bytes(
     rt: &(impl Print + AllocGlobal),
     packing: Packing,
     command: u32,
     image: &[u8],
-) -> std::io::Result<()> {
-    match Serial::start(packing, command, image) {
+) -> Result<(), AllocError> {
+    let _ = match Serial::start(packing, command, image) {
         Ok(serial) => {
-            let mut bytes = Vec::new(rt.alloc());
-            send(serial, Part::Ended, image, &mut bytes)?;
+            let mut bytes = vec![in rt.alloc(); 0u8; CALLS as usize]?;
+            let end = send(Progress::new(serial), Part::Ended, image, &mut bytes);
+            bytes.truncate(end.bytes);
             std::io::writer(rt).write_all(bytes.as_slice())
         }
         Err(refusal) => println!(rt; "{refusal}"),
-    }
+    };
+    Ok(())
 }
 
 // Every packing takes the same loads.
-fn print_lines(rt: &(impl Print + AllocGlobal), command: u32, image: &[u8]) -> std::io::Result<()> {
+fn print_lines(rt: &impl Print, command: u32, image: &[u8]) {
     for (name, packing) in [
         ("one", Packing::One),
         ("three", Packing::Three),
         ("fewest", Packing::Fewest),
     ] {
         match Serial::start(packing, command, image) {
-            Ok(serial) => print_line(rt, name, serial, image)?,
-            Err(refusal) => return println!(rt; "{refusal}"),
+            Ok(serial) => {
+                let _ = print_line(rt, name, serial, image);
+            }
+            Err(refusal) => {
+                let _ = println!(rt; "{refusal}");
+                return;
+            }
         }
     }
-    Ok(())
 }
 
 // At 115,200 baud nine bytes of ten bit times take 781,250 ns.
@@ -91,15 +105,8 @@ const NS_PER_S: u64 = 1_000_000_000;
 
 // How many bytes the handshake and the load take, and all that the session comes to, with the time of its bytes on the wire, cut to the
 // nanosecond.
-fn print_line(
-    rt: &(impl Print + AllocGlobal),
-    name: &str,
-    start: Serial,
-    image: &[u8],
-) -> std::io::Result<()> {
-    let mut bytes = Vec::new(rt.alloc());
-    let mut serial = start;
-    let mut calls = 0u32;
+fn print_line(rt: &impl Print, name: &str, start: Serial, image: &[u8]) -> std::io::Result<()> {
+    let mut progress = Progress::new(start);
     let mut ends = [0usize; 5];
     for (end, part) in ends.iter_mut().zip([
         Part::Handshake,
@@ -108,10 +115,8 @@ fn print_line(
         Part::Wait,
         Part::Ended,
     ]) {
-        let (next, n) = send(serial, part, image, &mut bytes)?;
-        serial = next;
-        calls = calls.wrapping_add(n);
-        *end = bytes.len();
+        progress = send(progress, part, image, &mut []);
+        *end = progress.bytes;
     }
     let [calibrated, connecting, connected, loaded, all] = ends;
     print!(rt;
@@ -119,37 +124,56 @@ fn print_line(
         connecting.wrapping_sub(calibrated)
     )?;
     print!(rt;
-        " load {} bytes {all} calls {calls}",
-        loaded.wrapping_sub(connected)
+        " load {} bytes {all} calls {}",
+        loaded.wrapping_sub(connected),
+        progress.calls
     )?;
-    if let Some(ending) = serial.end() {
+    if let Some(ending) = progress.serial.end() {
         print!(rt; " host {ending}")?;
     }
     let ns = (all as u64).wrapping_mul(NS_PER_NINE) / 9;
     println!(rt; " seconds {}.{:09}", ns / NS_PER_S, ns % NS_PER_S)
 }
 
-// Calls until the next byte is one of a part: keeps the bytes that are sent, and answers the session then, and how many calls that took.
-fn send(
-    start: Serial,
-    part: Part,
-    image: &[u8],
-    bytes: &mut Vec<u8>,
-) -> Result<(Serial, u32), AllocError> {
-    let mut serial = start;
-    for calls in 0..CALLS {
+// A session, and how many bytes and calls it took so far.
+#[derive(Clone, Copy)]
+struct Progress {
+    serial: Serial,
+    bytes: usize,
+    calls: u32,
+}
+
+impl Progress {
+    fn new(serial: Serial) -> Progress {
+        Progress {
+            serial,
+            bytes: 0,
+            calls: 0,
+        }
+    }
+}
+
+// Calls until the next byte is one of a part: keeps the bytes that are sent where there is room for them.
+fn send(start: Progress, part: Part, image: &[u8], room: &mut [u8]) -> Progress {
+    let mut progress = start;
+    for _ in 0..CALLS {
+        let serial = progress.serial;
         if part <= part_at(serial.place) {
-            return Ok((serial, calls));
+            break;
         }
         let Ok(turn) = serial.step(image, reply(serial.place)) else {
-            return Ok((serial, calls));
+            break;
         };
         if let Some(byte) = turn.sent {
-            bytes.push(byte)?;
+            if let Some(place) = room.get_mut(progress.bytes) {
+                *place = byte;
+            }
+            progress.bytes = progress.bytes.wrapping_add(1);
         }
-        serial = turn.serial;
+        progress.serial = turn.serial;
+        progress.calls = progress.calls.wrapping_add(1);
     }
-    Ok((serial, CALLS))
+    progress
 }
 
 // The part of the byte that is sent next. At the second pulse of a part's last pair that pair is sent.

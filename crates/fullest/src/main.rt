@@ -41,18 +41,21 @@ struct Progress {
     refused: u32,
 }
 
-fn main(rt: HostRuntime) -> io::Result<()> {
+fn main(rt: HostRuntime) {
     let image = image::longest();
     let mut ram = [0u8; Bytes::MEMORY.0];
     let mut eeprom = [0u8; Bytes::MEMORY.0];
+    // Output that cannot be written is passed over.
     match Chip::start(&ram, &eeprom, Fault::None) {
         Ok(chip) => {
             let end = run(chip, &image, &mut ram, &mut eeprom);
-            print(&rt, end)?;
-            println!(rt; "ram {}", sum(&ram))?;
-            println!(rt; "eeprom {}", sum(&eeprom))
+            let _ = print(&rt, end);
+            let _ = println!(rt; "ram {}", sum(&ram));
+            let _ = println!(rt; "eeprom {}", sum(&eeprom));
         }
-        Err(refusal) => println!(rt; "{refusal}"),
+        Err(refusal) => {
+            let _ = println!(rt; "{refusal}");
+        }
     }
 }
 

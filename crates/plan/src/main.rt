@@ -7,12 +7,13 @@ use eeprom::Fault;
 use joined::Report;
 use place::Ending;
 use std::env::Env;
+use ticks::PhaseTicks;
 use units::Bytes;
 
 // One byte more than the longest image has, so that a longer input is seen to be too long.
 const MOST: usize = 32_761;
 
-fn main(rt: HostRuntime) -> std::io::Result<()> {
+fn main(rt: HostRuntime) {
     let (Some(t), Some(h), Some(p), Some(l), Some(command), Some(phases @ 0..=1)) = (
         argument(&rt, 1),
         argument(&rt, 2),
@@ -21,9 +22,10 @@ fn main(rt: HostRuntime) -> std::io::Result<()> {
         argument(&rt, 5),
         argument(&rt, 6),
     ) else {
-        return eprintln!(rt;
+        let _ = eprintln!(rt;
             "plan: six numbers are wanted, T H P LOOP COMMAND PHASES, with PHASES 0 or 1, and an image on standard input"
         );
+        return;
     };
     // An array: memory for a vector could run out.
     let mut image = [0u8; MOST];
@@ -31,7 +33,8 @@ fn main(rt: HostRuntime) -> std::io::Result<()> {
     let image = &image[..n];
     let mut ram = [0u8; Bytes::MEMORY.0];
     let mut eeprom = [0u8; Bytes::MEMORY.0];
-    match joined::run(
+    // Output that cannot be written is passed over; the warning is said all the same.
+    let _ = match joined::run(
         t,
         h,
         p,
@@ -42,10 +45,13 @@ fn main(rt: HostRuntime) -> std::io::Result<()> {
         &mut ram,
         &mut eeprom,
     ) {
-        Ok(report) if phases == 1 => print_phases(&rt, report),
+        Ok(report) if phases == 1 => {
+            let _ = print_phases(&rt, report.phases);
+            warn(&rt, report.host)
+        }
         Ok(report) => print_plan(&rt, report),
         Err(refusal) => println!(rt; "{refusal}"),
-    }
+    };
 }
 
 // An argument by its number. One that is missing, or too long for a figure, is none. It stands in each program: no promise could say what the
@@ -80,9 +86,8 @@ fn print_seconds(rt: &impl Print, time: u64) -> std::io::Result<()> {
     println!(rt; "seconds {}.{:09}", ns / NS_PER_S, ns % NS_PER_S)
 }
 
-// A line for each phase, and one for what they add up to. These do not tell how the load ended.
-fn print_phases(rt: &(impl Print + Eprint), report: Report) -> std::io::Result<()> {
-    let phases = report.phases;
+// A line for each phase, and one for what they add up to.
+fn print_phases(rt: &impl Print, phases: PhaseTicks) -> std::io::Result<()> {
     let mut sum = 0u64;
     for (name, ticks) in [
         ("calibration", phases.calibration),
@@ -99,8 +104,12 @@ fn print_phases(rt: &(impl Print + Eprint), report: Report) -> std::io::Result<(
         println!(rt; "{name} {}", ticks.0)?;
         sum = sum.wrapping_add(ticks.0);
     }
-    println!(rt; "ticks {sum}")?;
-    match report.host {
+    println!(rt; "ticks {sum}")
+}
+
+// The lines of the phases do not tell how the load ended.
+fn warn(rt: &impl Eprint, host: Ending) -> std::io::Result<()> {
+    match host {
         Ending::Done => Ok(()),
         ending => eprintln!(rt;
             "plan: warning: the host ended {ending}, so that the load did not succeed; without --phases the plan says more"

@@ -20,27 +20,29 @@ fn main(rt: HostRuntime) -> std::io::Result<()> {
     let n = rt.arg(1, &mut text).unwrap_or(0);
     if n == 0 {
         let mut zeros = [0u8; Bytes::MEMORY.0];
-        let trace = read(&rt, 0)?;
-        return play(&rt, trace.as_slice(), &mut zeros);
+        return Ok(play_input(&rt, &mut zeros)?);
     }
     let Some(size @ 0..=MOST) = figures::read(&text[..n]) else {
-        return eprintln!(rt;
+        let _ = eprintln!(rt;
             "replayed: a trace is wanted on standard input, and before it an EEPROM of as many bytes as the argument says, at most 32769"
         );
+        return Ok(());
     };
-    let mut input = read(&rt, size)?;
-    let at = input.len().min(size as usize);
-    let (eeprom, trace) = input.split_at_mut(at);
-    play(&rt, trace, eeprom)
+    let mut eeprom = [0u8; MOST as usize];
+    let n = io::read_full(0, &mut eeprom[..size as usize]);
+    Ok(play_input(&rt, &mut eeprom[..n])?)
 }
 
-// Standard input, up to so many bytes and a trace of one byte more than the longest has, so that a longer one is seen to be too long. An
-// input that cannot be read ends there.
-fn read(rt: &impl AllocGlobal, before: u32) -> Result<Vec<u8>, AllocError> {
-    let mut bytes = vec![in rt.alloc(); 0u8; before as usize + LONGEST + 1]?;
-    let n = io::read_full(0, &mut bytes);
-    bytes.truncate(n);
-    Ok(bytes)
+// Plays what is on standard input, up to a trace of one byte more than the longest has, so that a longer one is seen to be too long. An
+// input that cannot be read ends there. Memory that runs out is an error; output that cannot be written is passed over.
+fn play_input(
+    rt: &(impl Print + Eprint + AllocGlobal),
+    eeprom: &mut [u8],
+) -> Result<(), AllocError> {
+    let mut trace = vec![in rt.alloc(); 0u8; LONGEST + 1]?;
+    let n = io::read_full(0, &mut trace);
+    let _ = play(rt, &trace[..n], eeprom);
+    Ok(())
 }
 
 fn play(rt: &(impl Print + Eprint), trace: &[u8], eeprom: &mut [u8]) -> std::io::Result<()> {

@@ -5,10 +5,11 @@
 mod calls;
 mod sessions;
 
-fn main(rt: HostRuntime) -> std::io::Result<()> {
+fn main(rt: HostRuntime) {
     // An array: memory for a vector could run out.
     let mut image = [0u8; 44];
     let n = io::read_full(0, &mut image);
-    sessions::print_all(&rt, &image[..n])?;
-    calls::print_all(&rt)
+    // Output that cannot be written is passed over.
+    let _ = sessions::print_all(&rt, &image[..n]);
+    let _ = calls::print_all(&rt);
 }

@@ -6,7 +6,6 @@ use crate::layout::{Layout, Y};
 use crate::pairs::Pairs;
 use crate::phases::Phase;
 use crate::{bars, links};
-use std::alloc::Global;
 use std::io::Write;
 use std::{fmt, io};
 
@@ -15,15 +14,14 @@ pub const GREEN: &str = "#11744a";
 
 pub const RED: &str = "#b02a26";
 
-pub fn report<W: Write>(alloc: Global, out: &mut W, batch: &Batch<'_>) -> io::Result<()> {
-    let layout = Layout::of(alloc, batch)?;
+pub fn report<W: Write>(out: &mut W, batch: &Batch<'_>, layout: &Layout<'_>) -> io::Result<()> {
     head(out, batch, layout.end + foot(batch))?;
     if let Some(first) = batch.rows.first() {
         legend(out, first)?;
         heads(out, &batch.job)?;
     }
-    bars::draw(out, &layout)?;
-    links::draw(out, &layout, &batch.pairs)?;
+    bars::draw(out, layout)?;
+    links::draw(out, layout, &batch.pairs)?;
     if !batch.rows.is_empty() {
         close(out, &batch.pairs, layout.end)?;
     }

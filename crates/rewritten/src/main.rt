@@ -8,7 +8,7 @@ use units::Bytes;
 // The buffer's bytes.
 const ROOM: usize = 8;
 
-fn main(rt: HostRuntime) -> io::Result<()> {
+fn main(rt: HostRuntime) {
     let cases: [(&[u64], usize); 17] = [
         (&[], 0),
         (&[], 1),
@@ -29,9 +29,9 @@ fn main(rt: HostRuntime) -> io::Result<()> {
         (&[u64::MAX, 5, 5], ROOM),
     ];
     for (numbers, room) in cases {
-        print_case(&rt, numbers, room)?;
+        // Output that cannot be written is passed over.
+        let _ = print_case(&rt, numbers, room);
     }
-    Ok(())
 }
 
 fn print_case(rt: &impl Print, numbers: &[u64], room: usize) -> io::Result<()> {

@@ -12,7 +12,7 @@ use std::env::Env;
 use std::io::Write;
 use units::{Bytes, Loops, Seen, Ticks};
 
-// No session has more pulses: 32,760 bytes, and every wait to its last pair.
+// No session has more pulses: 2,282 with every wait to its last pair, and eight for each byte of the image.
 const PULSES: u32 = 264_362;
 
 // One byte more than the longest image has, so that a longer input is seen to be too long.
@@ -26,21 +26,26 @@ fn main(rt: HostRuntime) -> std::io::Result<()> {
         argument(&rt, 4),
         argument(&rt, 5),
     ) else {
-        return eprintln!(rt;
+        let _ = eprintln!(rt;
             "traced: five numbers are wanted, T H P LOOP COMMAND, and an image on standard input"
         );
+        return Ok(());
     };
     // An array: memory for a vector could run out.
     let mut image = [0u8; MOST];
     let n = io::read_full(0, &mut image);
     let image = &image[..n];
+    // Memory that runs out is an error; output that cannot be written is passed over.
     match Host::start(t, h, p, command, image) {
         Ok(host) => {
             let numbers = measure(rt.alloc(), host, image, Clock { p, l })?;
-            write(&rt, numbers.as_slice())
+            write(&rt, numbers.as_slice())?;
         }
-        Err(refusal) => println!(rt; "{refusal}"),
+        Err(refusal) => {
+            let _ = println!(rt; "{refusal}");
+        }
     }
+    Ok(())
 }
 
 // An argument by its number. One that is missing, or too long for a figure, is none. It stands in each program: no promise could say what the
@@ -67,7 +72,9 @@ impl Clock {
 // Pulses until the host has ended: the loops of the wait before each and of its low. A pulse that the host refused would change nothing, and
 // a chip that has ended refuses its pulse and stays silent.
 fn measure(alloc: Global, start: Host, image: &[u8], clock: Clock) -> Result<Vec<u64>, AllocError> {
-    let mut numbers = Vec::new(alloc);
+    // Two numbers for each pulse that there can be, reserved at once: a vector that grows takes twice as much.
+    let most = image.len().saturating_mul(8).saturating_add(2_282);
+    let mut numbers = Vec::with_capacity(alloc, most.saturating_mul(2))?;
     let mut ram = [0u8; Bytes::MEMORY.0];
     let mut eeprom = [0u8; Bytes::MEMORY.0];
     let mut host = start;
@@ -106,14 +113,15 @@ fn measure(alloc: Global, start: Host, image: &[u8], clock: Clock) -> Result<Vec
 }
 
 // Room for the mark, and five groups for each number.
-fn write(rt: &(impl Print + AllocGlobal), numbers: &[u64]) -> std::io::Result<()> {
+fn write(rt: &(impl Print + AllocGlobal), numbers: &[u64]) -> Result<(), AllocError> {
     let room = numbers.len().saturating_mul(5).saturating_add(1);
     let mut file = vec![in rt.alloc(); 0u8; room]?;
-    match trace::write(numbers, &mut file) {
+    let _ = match trace::write(numbers, &mut file) {
         Ok(length) => {
             file.truncate(length.0);
             std::io::writer(rt).write_all(file.as_slice())
         }
         Err(refusal) => println!(rt; "{refusal}"),
-    }
+    };
+    Ok(())
 }

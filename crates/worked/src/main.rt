@@ -16,12 +16,14 @@ use std::io::Write;
 // The bytes of the longest table that is taken.
 const LONGEST: usize = 32_768;
 
-fn main(rt: HostRuntime) -> std::io::Result<()> {
+fn main(rt: HostRuntime) {
     // One byte more, so that a longer one is seen to be too long; an array, since memory for a vector could run out.
     let mut table = [0u8; 32_769];
     let n = io::read_full(0, &mut table);
+    // Output that cannot be written is passed over.
     if LONGEST < n {
-        return println!(rt; "the table has more than 32768 bytes");
+        let _ = println!(rt; "the table has more than 32768 bytes");
+        return;
     }
     let table = &table[..n];
     // No table has more lines than bytes.
@@ -30,14 +32,15 @@ fn main(rt: HostRuntime) -> std::io::Result<()> {
             // An empty line ends it.
             [] => break,
             [b'#', _, ..] => {}
-            [b' ', _, case @ ..] => run(&rt, Case { line: case })?,
+            [b' ', _, case @ ..] => {
+                let _ = run(&rt, Case { line: case });
+            }
             heading => {
-                std::io::writer(&rt).write_all(heading)?;
-                println!(rt; "")?;
+                let _ = std::io::writer(&rt).write_all(heading);
+                let _ = println!(rt; "");
             }
         }
     }
-    Ok(())
 }
 
 // A case with a threshold is a low that is read, and one with a size is fed to a chip. One with a pulse, or with a byte that is sent as
