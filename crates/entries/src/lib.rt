@@ -93,7 +93,11 @@ fn content_end(line: &[u8]) -> usize
 fn is_end(byte: u8, following: usize) -> bool
     ensures { result ≡ ends_content byte following }
 {
-    byte == b'#' || byte == b'\r' && following == 0
+    match byte {
+        b'#' => true,
+        b'\r' => following == 0,
+        _ => false,
+    }
 }
 
 // Where word n starts; the end where there is none.
