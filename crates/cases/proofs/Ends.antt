@@ -6,11 +6,11 @@ use Prim.Native.Nat.{ℕ, zero, suc, ◌+◌, ◌-◌, ◌≤◌}
 use native.Mathlib.Numerals.{add-one}
 use native.Mathlib.Omega.{arith}
 use lib.Dec.{eqb}
-use lib.ListN.{length, take, drop, drop_of_length-le, length-drop}
+use lib.ListN.{length, take, drop, length-drop}
 use Rattle.terms.proofs.Tests.{when_elim}
 use Rattle.cases.specs.Cases.{until_newline, line_end, next_line, line_start, line_bytes, line_place}
 
-pub until_within : (text : List ℕ) → until_newline text ≤ length text
+until_within : (text : List ℕ) → until_newline text ≤ length text
 unfolding until_newline
 until_within [] = omega arith
 until_within (byte ∷ text) =
@@ -18,10 +18,6 @@ until_within (byte ∷ text) =
     when_elim (λ n. n ≤ length (byte ∷ text)) (eqb byte 10) 0 (until_newline text + 1) (λ e. omega arith) (λ e. omega (arith, rest))
 
 module _ (text : List ℕ) (from : ℕ) where
-  pub end_past : length text ≤ from → from ≡ line_end text from
-  unfolding line_end until_newline
-  end_past h = rw (drop_of_length-le text h) omega arith
-
   pub end_behind : from ≤ line_end text from
   unfolding line_end
   end_behind = omega arith

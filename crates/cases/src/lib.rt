@@ -1,8 +1,8 @@
 // Cases as lines of text: a line names what its case changes, each name with its number behind it.
 #![tactic(auto)]
 
-ghost use Rattle.std.specs.Prelude.{◌≡◌, ◌≤◌, length};
-ghost use Rattle.cases.specs.Cases.{until_newline, line_end, next_line, line_start, line_bytes, line_place, behind, starts_with_digit, grown, value_from, number};
+ghost use Rattle.std.specs.Prelude.{◌≡◌, ◌≤◌};
+ghost use Rattle.cases.specs.Cases.{line_end, next_line, line_start, line_bytes, line_place, behind, starts_with_digit, grown, value_from, number};
 
 // Line n of a text, counted from 0, as a part of it. Past the last line it is empty.
 #[tactic(auto, using(crate::proofs::Ends::end_behind, crate::proofs::Ends::end_within, crate::proofs::Ends::start_within))]
@@ -31,27 +31,24 @@ fn line_start(text: &[u8], n: u32) -> usize
 fn next_line(text: &[u8], from: usize) -> usize
     ensures { result ≡ next_line text.now from }
 {
-    line_end(text, from).saturating_add(1).min(text.len())
+    let end = line_end(text, from);
+    if text.len() <= end {
+        return text.len();
+    }
+    end + 1
 }
 
 // Where the line ends that a place stands in: at the next newline, or with the text. A place past the text's end is its own line's end.
-#[tactic(auto, using(crate::proofs::Ends::end_past), unfolding(crate::specs::Cases::line_end))]
+// By places: `iter().skip(from)` would walk what stands before at each line, and a part made for each line costs where lines are short.
 fn line_end(text: &[u8], from: usize) -> usize
     ensures { result ≡ line_end text.now from }
 {
-    if text.len() <= from {
-        return from;
+    for at in from..text.len() {
+        if text[at] == b'\n' {
+            return at;
+        }
     }
-    from + until_newline(&text[from..])
-}
-
-// How many bytes stand before a text's first newline. Counted on the part of a text that follows a place: the library's `skip` would walk
-// the bytes before it at each line.
-fn until_newline(text: &[u8]) -> usize
-    ensures value { result ≡ until_newline text.now }
-    ensures within { result ≤ length text.now }
-{
-    text.iter().take_while(|byte| **byte != b'\n').count()
+    from.max(text.len())
 }
 
 // The number right behind the words, where they stand for the first time at a line's start or behind a space with a digit behind them;
