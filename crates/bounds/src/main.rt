@@ -21,10 +21,11 @@ fn main(rt: HostRuntime) {
         let _ = println!(rt; "the table has more than 32768 bytes");
         return;
     }
-    let table = &table[..n];
+    let mut rest = &table[..n];
     // No table has more lines than bytes.
-    for number in 0..LONGEST as u32 {
-        let line = cases::line(table, number);
+    for _ in 0..LONGEST {
+        let line = cases::line(rest, 0);
+        rest = rest.get(line.len().saturating_add(1)..).unwrap_or(&[]);
         // An empty line ends it.
         if line.is_empty() {
             break;

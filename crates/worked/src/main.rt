@@ -25,10 +25,12 @@ fn main(rt: HostRuntime) {
         let _ = println!(rt; "the table has more than 32768 bytes");
         return;
     }
-    let table = &table[..n];
+    let mut rest = &table[..n];
     // No table has more lines than bytes.
-    for number in 0..LONGEST as u32 {
-        match cases::line(table, number) {
+    for _ in 0..LONGEST {
+        let line = cases::line(rest, 0);
+        rest = rest.get(line.len().saturating_add(1)..).unwrap_or(&[]);
+        match line {
             // An empty line ends it.
             [] => break,
             [b'#', _, ..] => {}
