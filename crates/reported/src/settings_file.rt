@@ -42,11 +42,15 @@ pub fn read<'a>(alloc: Global, text: &'a [u8]) -> Result<Vec<Setting<'a>>, Error
     if LARGEST < text.len() {
         return Err(Error::Settings(Fault::TooLarge));
     }
-    let text = text.strip_prefix(&BYTE_ORDER_MARK).unwrap_or(text);
+    let mut rest = text.strip_prefix(&BYTE_ORDER_MARK).unwrap_or(text);
     let mut settings = Vec::new(alloc);
-    let mut line = 0usize;
-    for words in text.split(|byte| *byte == b'\n') {
-        line = line.saturating_add(1);
+    // No file has more lines than bytes.
+    for line in 1..=LARGEST {
+        if rest.is_empty() {
+            break;
+        }
+        let words = cases::line(rest, 0);
+        rest = rest.get(words.len().saturating_add(1)..).unwrap_or(&[]);
         if let Some(setting) = Setting::of(words, line)? {
             check_new(&settings, setting)?;
             settings.push(setting)?;
